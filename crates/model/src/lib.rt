@@ -1,0 +1,114 @@
+// The words of the model that stand for numbers or letters: kinds of access, paths, arbiters, and the number of cores.
+ghost use mathlib.Core.Path.{_≡_};
+ghost use Rattle.model.specs.Numbers.{kindNumber, kindLetter, kindCheck, pathNumber, pathCheck, arbiterNumber, arbiterCheck, coresCheck, counted};
+
+mod cores;
+
+pub use cores::Cores;
+use refusal::Reason;
+use refusal::Refusal;
+
+// What a core asks of a line.
+#[derive(Clone, Copy, PartialEq, Eq, Debug)]
+pub enum Kind {
+    Load,
+    Store,
+    Replace,
+}
+
+// How a word gets from the core that owns a line to the core that asks for it.
+#[derive(Clone, Copy, PartialEq, Eq, Debug)]
+pub enum Path {
+    ThroughMemory,
+    Direct,
+}
+
+// Which of the three shipped arbiters grants the bus.
+#[derive(Clone, Copy, PartialEq, Eq, Debug)]
+pub enum ArbiterChoice {
+    WorkConserving,
+    FixedSlots,
+    RoundRobin,
+}
+
+impl Kind {
+    // The kind of a number; from 3 up there is none.
+    pub fn check(number: u8) -> Result<Kind, Refusal>
+        ensures { λ r. ⌜ r ≡ kindCheck number ⌝ }
+    {
+        match number {
+            0 => Ok(Kind::Load),
+            1 => Ok(Kind::Store),
+            2 => Ok(Kind::Replace),
+            _ => Err(Reason::KindRange.at(0)),
+        }
+    }
+
+    pub fn number(self) -> u8
+        ensures { λ r. ⌜ r ≡ kindNumber self ⌝ }
+    {
+        self as u8
+    }
+
+    // The letter of a report's rows.
+    pub fn letter(self) -> char
+        ensures { λ r. ⌜ r ≡ kindLetter self ⌝ }
+    {
+        match self {
+            Kind::Load => 'L',
+            Kind::Store => 'S',
+            Kind::Replace => 'R',
+        }
+    }
+}
+
+impl Path {
+    pub fn check(number: u8) -> Result<Path, Refusal>
+        ensures { λ r. ⌜ r ≡ pathCheck number ⌝ }
+    {
+        match number {
+            0 => Ok(Path::ThroughMemory),
+            1 => Ok(Path::Direct),
+            _ => Err(Reason::SettingRange.at(0)),
+        }
+    }
+
+    pub fn number(self) -> u8
+        ensures { λ r. ⌜ r ≡ pathNumber self ⌝ }
+    {
+        self as u8
+    }
+}
+
+impl ArbiterChoice {
+    pub fn check(number: u8) -> Result<ArbiterChoice, Refusal>
+        ensures { λ r. ⌜ r ≡ arbiterCheck number ⌝ }
+    {
+        match number {
+            0 => Ok(ArbiterChoice::WorkConserving),
+            1 => Ok(ArbiterChoice::FixedSlots),
+            2 => Ok(ArbiterChoice::RoundRobin),
+            _ => Err(Reason::SettingRange.at(0)),
+        }
+    }
+
+    pub fn number(self) -> u8
+        ensures { λ r. ⌜ r ≡ arbiterNumber self ⌝ }
+    {
+        self as u8
+    }
+}
+
+impl Cores {
+    // The number is wide so that any count can be asked about.
+    pub fn check(number: u32) -> Result<Cores, Refusal>
+        ensures { λ r. ⌜ counted r ≡ coresCheck number ⌝ }
+    {
+        if number < 1 || number > 8 {
+            return Err(Reason::CoreCount.at(0));
+        }
+        Ok(Cores {
+            count: number as u8,
+        })
+    }
+}

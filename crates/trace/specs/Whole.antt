@@ -1,0 +1,71 @@
+-- Whole traces: the records of a part of the bytes, and records as bytes.
+use Prim.Native.Nat.{ℕ, zero, suc, _+_, _-_, _<_, _≤_}
+use mathlib.Core.Path.{_≡_}
+use mathlib.Core.Bool.{cond, _&&_, false}
+use mathlib.Core.List.{List, [], _∷_, _++_}
+use lib.Dec.{leb}
+use lib.ListN.{length, getD, take, drop}
+use Rattle.std.specs.declared.option.Option.{Option}
+use Rattle.std.specs.declared.option.Option.the-variants.{Some, None}
+use Rattle.std.specs.declared.result.Result.{Result}
+use Rattle.std.specs.declared.result.Result.the-variants.{Ok, Err}
+use Rattle.refusal.specs.declared.Reason.{Reason}
+use Rattle.refusal.specs.declared.Refusal.{Refusal}
+use Rattle.refusal.specs.Numbers.{refusal}
+use Rattle.model.specs.Numbers.{kindNumber}
+use Rattle.trace.specs.declared.Record.{Record}
+use Rattle.trace.specs.Reading.{decode, size, mapOf}
+use Rattle.trace.specs.Writing.{encode, differs}
+
+-- the bytes from `at` up to `end`, as far as there are any
+abbrev pub window : List ℕ → ℕ → ℕ → List ℕ
+window bytes at end = take (end - at) (drop at bytes)
+
+-- a record, and the place after it
+abbrev pub ended : Result Record Reason → ℕ → Result (Option (Record × ℕ)) Reason
+ended (Ok r) next = Ok (Some (r, next))
+ended (Err why) next = Err why
+
+-- what stands at a place of a trace that ends at `end`: nothing at the end, else a record or its fault
+unfoldable pub readAt : List ℕ → ℕ → ℕ → ℕ → Result (Option (Record × ℕ)) Reason
+readAt bytes at end before =
+    cond (leb end at) (Ok None) (ended (decode (window bytes at end) before) (at + size (mapOf (window bytes at end))))
+
+-- one record and those after it
+abbrev pub joined : Record → Result (List Record) Refusal → Result (List Record) Refusal
+joined r (Ok rs) = Ok (r ∷ rs)
+joined r (Err f) = Err f
+
+-- what a read at a place leads to; `more` goes on from the next place and the line of the record
+abbrev pub followed : ℕ → Result (Option (Record × ℕ)) Reason → (ℕ → ℕ → Result (List Record) Refusal) → Result (List Record) Refusal
+followed at (Ok None) more = Ok []
+followed at (Ok (Some (r, next))) more = joined r (more next (r .line))
+followed at (Err why) more = Err (refusal why at)
+
+-- the records from `at` up to `end`, at most `turns` of them, or the first fault with its place
+unfoldable pub recordsFrom : ℕ → List ℕ → ℕ → ℕ → ℕ → Result (List Record) Refusal
+recordsFrom zero bytes at end before = Ok []
+recordsFrom (suc turns) bytes at end before =
+    followed at (readAt bytes at end before) (λ next line. recordsFrom turns bytes next end line)
+
+-- all of them: a record has one byte at least
+abbrev pub recordsIn : List ℕ → ℕ → ℕ → ℕ → Result (List Record) Refusal
+recordsIn bytes at end before = recordsFrom (end - at) bytes at end before
+
+-- how many there are
+abbrev pub countOf : Result (List Record) Refusal → Result ℕ Refusal
+countOf (Ok rs) = Ok (length rs)
+countOf (Err f) = Err f
+
+-- records written one after another
+abbrev pub encodeAll : List Record → ℕ → List ℕ
+encodeAll [] before = []
+encodeAll (r ∷ rs) before = encode r before ++ encodeAll rs (r .line)
+
+-- a record that can be written: it has a word only if it is a store
+abbrev pub Writable : Record → Type 0
+Writable r = (differs (r .word) 0 && differs (kindNumber (r .kind)) 1) ≡ false
+
+abbrev pub AllWritable : List Record → Type 0
+AllWritable [] = Unit {0}
+AllWritable (r ∷ rs) = Writable r × AllWritable rs

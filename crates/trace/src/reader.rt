@@ -1,0 +1,95 @@
+// Reading a trace, record after record.
+ghost use mathlib.Core.Path.{_≡_};
+ghost use lib.ListN.{length};
+ghost use Rattle.trace.specs.Reader.{answer, after, remaining, taken};
+ghost use Rattle.trace.specs.Whole.{window, readAt, followed, recordsIn, countOf};
+use crate::Record;
+use crate::decode::decode;
+use crate::decode::map_of;
+use crate::decode::size_of;
+use refusal::Reason;
+use refusal::Refusal;
+
+// Reads the records from `at` up to `end` in the caller's bytes; `before` is the line of the record before.
+#[derive(Drop)]
+pub struct TraceReader<'a> {
+    bytes: &'a [u8],
+    at: usize,
+    end: usize,
+    before: u8,
+}
+
+// The bytes from `at` up to `end`, as far as there are any.
+fn part_of(bytes: &[u8], at: usize, end: usize) -> &[u8]
+    ensures { λ r. ⌜ now r ≡ window (now (bytes .entry)) at end ⌝ }
+{
+    let end = end.min(bytes.len());
+    if at < end { &bytes[at..end] } else { &[] }
+}
+
+// What stands at a place of a trace that ends at `end`, and the place after it. The records from there on are
+// this one and those that follow it.
+fn read_at(
+    bytes: &[u8],
+    at: usize,
+    end: usize,
+    before: u8,
+) -> Result<Option<(Record, usize)>, Reason>
+    ensures value { λ r. ⌜ r ≡ readAt (now (bytes .entry)) at end before ⌝ }
+    ensures rest { λ r. ⌜ recordsIn (now (bytes .entry)) at end before ≡ followed at r (λ next line. recordsIn (now (bytes .entry)) next end line) ⌝ }
+{
+    if at >= end {
+        return Ok(None);
+    }
+    let ahead = part_of(bytes, at, end);
+    match decode(ahead, before) {
+        Ok(record) => Ok(Some((record, at + size_of(map_of(ahead))))),
+        Err(reason) => Err(reason),
+    }
+}
+
+impl<'a> TraceReader<'a> {
+    // A trace that stands alone.
+    pub fn new(bytes: &'a [u8]) -> TraceReader<'a>
+        ensures { λ r. ⌜ r ≡ record { bytes = bytes .entry; at = 0; end = length (now (bytes .entry)); before = 0 } ⌝ }
+    {
+        TraceReader {
+            bytes,
+            at: 0,
+            end: bytes.len(),
+            before: 0,
+        }
+    }
+
+    // A part of a trace, or a trace inside a bundle, whose record before `at` was of the line `before`.
+    pub fn resume(bytes: &'a [u8], at: usize, end: usize, before: u8) -> TraceReader<'a>
+        ensures { λ r. ⌜ r ≡ record { bytes = bytes .entry; at = at; end = end; before = before } ⌝ }
+    {
+        TraceReader {
+            bytes,
+            at,
+            end,
+            before,
+        }
+    }
+
+    // The next record, or none at the end, again and again. A refused read moves nothing.
+    pub fn next(&mut self) -> Result<Option<Record>, Refusal>
+        ensures result { λ r. ⌜ r ≡ answer (now (self .entry)) ⌝ }
+        ensures state { λ _. ⌜ now (self .exit) ≡ after (now (self .entry)) ⌝ }
+        ensures rest { λ r. ⌜ remaining (now (self .entry)) ≡ taken r (remaining (now (self .exit))) ⌝ }
+    {
+        match read_at(self.bytes, self.at, self.end, self.before) {
+            Ok(found) => {
+                if let Some((record, next)) = found {
+                    self.at = next;
+                    self.before = record.line;
+                    Ok(Some(record))
+                } else {
+                    Ok(None)
+                }
+            }
+            Err(reason) => Err(reason.at(self.at)),
+        }
+    }
+}
