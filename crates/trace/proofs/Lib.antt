@@ -1,3 +1,10 @@
 pub mod Windows
 pub mod Accepted
 pub mod Steps
+pub mod Buffers
+pub mod Laid
+pub mod ReadBack
+pub mod Canonical
+pub mod Traces
+pub mod Counts
+pub mod Spans

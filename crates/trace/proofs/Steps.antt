@@ -10,7 +10,7 @@ use Rattle.std.specs.declared.option.Option.{Option}
 use Rattle.std.specs.declared.option.Option.the-variants.{Some, None}
 use Rattle.std.specs.declared.result.Result.{Result}
 use Rattle.std.specs.declared.result.Result.the-variants.{Ok, Err}
-use Rattle.std.proofs.shelf.Tests.{leb-false, le-leb, lt-leb}
+use Rattle.std.proofs.shelf.Tests.{leb-true, leb-false, le-leb, lt-leb}
 use Rattle.refusal.specs.declared.Reason.{Reason}
 use Rattle.refusal.specs.declared.Refusal.{Refusal}
 use Rattle.trace.specs.declared.Record.{Record}
@@ -49,6 +49,17 @@ has-read b at end before r next h =
 pub read-none : (b : List ℕ) (at end before : ℕ) → end ≤ at → readAt b at end before ≡ Ok None
 unfolding readAt
 read-none b at end before h = rw (le-leb end at h)
+
+ends : (past : Bool) (x : Result Record Reason) (n : ℕ) → cond past (Ok None) (ended x n) ≡ Ok None → past ≡ true
+ends true x n h = refl
+ends false (Ok y) n h = let z : _≡_ {A = ℕ} 0 1 = cc in absurd (omega arith)
+ends false (Err why) n h = let z : _≡_ {A = ℕ} 0 1 = cc in absurd (omega arith)
+
+-- and only there
+pub none-read : (b : List ℕ) (at end before : ℕ) → readAt b at end before ≡ Ok None → end ≤ at
+unfolding readAt
+none-read b at end before h =
+    leb-true end at (ends (leb end at) (decode (window b at end) before) (at + size (mapOf (window b at end))) h)
 
 -- before the end what is read is what the bytes up to the end begin with
 pub read-some : (b w : List ℕ) (at end before n : ℕ) (x : Result Record Reason) → at < end → w ≡ window b at end → x ≡ decode w before → n ≡ size (mapOf w)

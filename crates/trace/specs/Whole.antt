@@ -52,6 +52,10 @@ recordsFrom (suc turns) bytes at end before =
 abbrev pub recordsIn : List ℕ → ℕ → ℕ → ℕ → Result (List Record) Refusal
 recordsIn bytes at end before = recordsFrom (end - at) bytes at end before
 
+-- a trace that stands alone
+abbrev pub traceIn : List ℕ → Result (List Record) Refusal
+traceIn bytes = recordsIn bytes 0 (length bytes) 0
+
 -- how many there are
 abbrev pub countOf : Result (List Record) Refusal → Result ℕ Refusal
 countOf (Ok rs) = Ok (length rs)
@@ -69,3 +73,18 @@ Writable r = (differs (r .word) 0 && differs (kindNumber (r .kind)) 1) ≡ false
 abbrev pub AllWritable : List Record → Type 0
 AllWritable [] = Unit {0}
 AllWritable (r ∷ rs) = Writable r × AllWritable rs
+
+-- **Records written as a trace read back the same**, whatever stands before and after them.
+abbrev pub ReadsBack : Type 0
+ReadsBack = (front rest : List ℕ) (rs : List Record) (before : ℕ) → AllWritable rs
+    → recordsIn (front ++ (encodeAll rs before ++ rest)) (length front) (length front + length (encodeAll rs before)) before ≡ Ok rs
+
+-- **An accepted trace, written again from its records, has the same bytes.**
+abbrev pub SameBytes : List ℕ → Type 0
+SameBytes bytes = (rs : List Record) → traceIn bytes ≡ Ok rs → encodeAll rs 0 ≡ bytes
+
+-- the bytes that a record was written to are a trace of that record alone
+abbrev pub Holds : Result ℕ Refusal → Result Record Refusal → List ℕ → ℕ → ℕ → Type 0
+Holds (Ok next) (Ok r) out at before = recordsIn out at next before ≡ Ok (r ∷ [])
+Holds (Ok next) (Err f) out at before = ⊥
+Holds (Err f) x out at before = Unit {0}

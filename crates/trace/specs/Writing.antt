@@ -19,7 +19,8 @@ differs a b = not (eqb a b)
 -- a number in so many bytes, high byte first
 abbrev pub bytesOf : ℕ → ℕ → List ℕ
 bytesOf zero n = []
-bytesOf (suc k) n = bytesOf k (n / 256) ++ (n % 256 ∷ [])
+bytesOf (suc zero) n = n ∷ []
+bytesOf (suc (suc k)) n = bytesOf (suc k) (n / 256) ++ (n % 256 ∷ [])
 
 -- a map byte by its four bits
 abbrev pub mapBy : Bool → Bool → Bool → Bool → ℕ

@@ -6,11 +6,14 @@ mod writer;
 
 pub use bundle::Bundle;
 pub use bundle::Span;
+pub use bundle::check_bundle;
 use model::Kind;
 use model::KindDebug;
 use model::KindPartialEq;
 pub use reader::TraceReader;
+pub use reader::check_trace;
 pub use writer::Draft;
+pub use writer::write_record;
 
 // One access of a core: `gap` is how long it waits before it, `word` what a store puts there.
 #[derive(Clone, Copy, PartialEq, Eq, Debug)]

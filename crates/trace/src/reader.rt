@@ -2,7 +2,7 @@
 ghost use mathlib.Core.Path.{_≡_};
 ghost use lib.ListN.{length};
 ghost use Rattle.trace.specs.Reader.{answer, after, remaining, taken};
-ghost use Rattle.trace.specs.Whole.{window, readAt, followed, recordsIn, countOf};
+ghost use Rattle.trace.specs.Whole.{window, readAt, followed, recordsIn, traceIn, countOf, SameBytes};
 use crate::Record;
 use crate::decode::decode;
 use crate::decode::map_of;
@@ -92,4 +92,26 @@ impl<'a> TraceReader<'a> {
             Err(reason) => Err(reason.at(self.at)),
         }
     }
+}
+
+// How many records there are from `at` up to `end`, or the first fault among them.
+pub(crate) fn count_records(bytes: &[u8], at: usize, end: usize) -> Result<usize, Refusal>
+    ensures count { λ r. ⌜ r ≡ countOf (recordsIn (now (bytes .entry)) at end 0) ⌝ }
+    ensures same { λ _. ⌜ SameBytes (now (bytes .entry)) ⌝ }
+{
+    let mut reader = TraceReader::resume(bytes, at, end, 0);
+    let mut n = 0;
+    while let Some(_) = reader.next()? {
+        n += 1;
+    }
+    Ok(n)
+}
+
+// How many records a trace that stands alone has, or its first fault. Where it has none, the trace, written
+// again from its records, has the same bytes.
+pub fn check_trace(bytes: &[u8]) -> Result<usize, Refusal>
+    ensures count { λ r. ⌜ r ≡ countOf (traceIn (now (bytes .entry))) ⌝ }
+    ensures same { λ _. ⌜ SameBytes (now (bytes .entry)) ⌝ }
+{
+    count_records(bytes, 0, bytes.len())
 }

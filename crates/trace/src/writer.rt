@@ -1,7 +1,128 @@
+// Writing records into a lent buffer.
+ghost use mathlib.Core.Path.{_≡_};
+ghost use mathlib.Core.Bool.{cond};
+ghost use mathlib.Core.List.{[], _∷_};
+ghost use Prim.Native.Nat.{_+_, _≤_};
+ghost use lib.ListN.{length};
+ghost use Rattle.std.specs.declared.result.Result.the-variants.{Ok};
+ghost use Rattle.std.specs.Vec.{made};
+ghost use Rattle.model.specs.Numbers.{kindNumber};
+ghost use Rattle.trace.specs.Whole.{recordsIn, Writable, Holds, ReadsBack};
+ghost use Rattle.trace.specs.Writing.{differs, bytesOf, mapBy, encode, put, recordFrom, placed, filled};
+use crate::Record;
+use crate::decode::kind_named;
+use crate::decode::size_of;
+use refusal::Reason;
+use refusal::Refusal;
+
+// A record to be written, as a tool hands it in: its kind is still a number.
 #[derive(Clone, Copy, PartialEq, Eq, Debug)]
 pub struct Draft {
     pub gap: u16,
     pub line: u8,
     pub word: u32,
     pub kind: u8,
+}
+
+impl Draft {
+    // The record that it stands for: there is none with a kind above 2, or with a word and no store.
+    pub fn check(self) -> Result<Record, Refusal>
+        ensures value { λ r. ⌜ r ≡ recordFrom self ⌝ }
+        ensures writable { λ r. ⌜ made r Writable ⌝ }
+    {
+        if self.kind > 2 {
+            return Err(Reason::KindRange.at(0));
+        }
+        if self.word != 0 && self.kind != 1 {
+            return Err(Reason::RedundantField.at(0));
+        }
+        Ok(Record {
+            gap: self.gap,
+            line: self.line,
+            word: self.word,
+            kind: kind_named(self.kind),
+        })
+    }
+}
+
+// The map byte of a record after one of the line `before`.
+fn map_for(rec: Record, before: u8) -> u8
+    ensures { λ r. ⌜ r ≡ mapBy (differs (rec .gap) 0) (differs (rec .line) before) (differs (rec .word) 0) (differs (kindNumber (rec .kind)) 0) ⌝ }
+{
+    let gap = u8::from(rec.gap != 0);
+    let line = u8::from(rec.line != before);
+    let word = u8::from(rec.word != 0);
+    let kind = u8::from(rec.kind.number() != 0);
+    gap + 2 * line + 4 * word + 8 * kind
+}
+
+// How many bytes a record takes, one at least.
+fn encoded_size(rec: Record, before: u8) -> usize
+    ensures value { λ r. ⌜ r ≡ length (encode rec before) ⌝ }
+    ensures some { λ r. ⌜ 1 ≤ r ⌝ }
+{
+    size_of(map_for(rec, before))
+}
+
+fn gap_bytes(gap: u16) -> [u8; 2]
+    ensures { λ r. ⌜ r ≡ bytesOf 2 gap ⌝ }
+{
+    gap.to_be_bytes()
+}
+
+fn word_bytes(word: u32) -> [u8; 4]
+    ensures { λ r. ⌜ r ≡ bytesOf 4 word ⌝ }
+{
+    word.to_be_bytes()
+}
+
+// Puts the bytes of a field at a place, if it is present, and answers the place after them.
+fn put_field(out: &mut [u8], at: usize, present: bool, bytes: &[u8]) -> usize
+    requires { ⌜ at + length (cond present (now bytes) []) ≤ length (now out) ⌝ }
+    ensures place { λ r. ⌜ r ≡ at + length (cond present (now (bytes .entry)) []) ⌝ }
+    ensures bytes { λ _. ⌜ now (out .exit) ≡ put (now (out .entry)) at (cond present (now (bytes .entry)) []) ⌝ }
+{
+    if !present {
+        return at;
+    }
+    let end = at + bytes.len();
+    out[at..end].copy_from_slice(bytes);
+    end
+}
+
+// Puts a record at a place that has room for it.
+fn put_record(out: &mut [u8], at: usize, before: u8, rec: Record) -> usize
+    requires { ⌜ at + length (encode rec before) ≤ length (now out) ⌝ }
+    ensures place { λ r. ⌜ r ≡ at + length (encode rec before) ⌝ }
+    ensures bytes { λ _. ⌜ now (out .exit) ≡ put (now (out .entry)) at (encode rec before) ⌝ }
+    ensures holds { λ r. ⌜ (Writable rec → recordsIn (now (out .exit)) at r before ≡ Ok (rec ∷ [])) ⌝ }
+    ensures trace { λ _. ⌜ ReadsBack ⌝ }
+{
+    let kind = rec.kind.number();
+    let a = put_field(out, at, true, &[map_for(rec, before)]);
+    let b = put_field(out, a, rec.gap != 0, &gap_bytes(rec.gap));
+    let c = put_field(out, b, rec.line != before, &[rec.line]);
+    let d = put_field(out, c, rec.word != 0, &word_bytes(rec.word));
+    put_field(out, d, kind != 0, &[kind])
+}
+
+// Writes a record at a place of the buffer, after one of the line `before`, and answers the next free place.
+// A refusal writes nothing. What was written reads back as that record, and records written one after another
+// read back as a trace.
+pub fn write_record(
+    out: &mut [u8],
+    at: usize,
+    before: u8,
+    draft: Draft,
+) -> Result<usize, Refusal>
+    ensures result { λ r. ⌜ r ≡ placed (recordFrom draft) (now (out .entry)) at before ⌝ }
+    ensures bytes { λ _. ⌜ now (out .exit) ≡ filled (recordFrom draft) (now (out .entry)) at before ⌝ }
+    ensures holds { λ r. ⌜ Holds r (recordFrom draft) (now (out .exit)) at before ⌝ }
+    ensures trace { λ r. ⌜ made r (λ _. ReadsBack) ⌝ }
+{
+    let rec = draft.check()?;
+    if out.len().saturating_sub(at) < encoded_size(rec, before) {
+        return Err(Reason::NoSpace.at(0));
+    }
+    Ok(put_record(out, at, before, rec))
 }
