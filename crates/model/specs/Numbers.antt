@@ -6,7 +6,7 @@ use Rattle.std.specs.declared.result.Result.{Result}
 use Rattle.std.specs.declared.result.Result.the-variants.{Ok, Err}
 use Rattle.refusal.specs.declared.Reason.the-variants.{CoreCount, SettingRange, KindRange}
 use Rattle.refusal.specs.declared.Refusal.{Refusal}
-use Rattle.refusal.specs.Numbers.{refusal}
+use Rattle.refusal.specs.Refusals.{refusal}
 use Rattle.model.specs.declared.Kind.{Kind}
 use Rattle.model.specs.declared.Kind.the-variants.{Load, Store, Replace}
 use Rattle.model.specs.declared.Path.{Path}
@@ -20,7 +20,7 @@ kindNumber Load = 0
 kindNumber Store = 1
 kindNumber Replace = 2
 
--- L, S and R
+-- its letter in rows: L, S or R
 abbrev pub kindLetter : Kind → ℕ
 kindLetter Load = 76
 kindLetter Store = 83

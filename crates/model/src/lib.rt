@@ -1,5 +1,8 @@
 // The words of the model that stand for numbers or letters: kinds of access, paths, arbiters, and the number of cores.
 ghost use mathlib.Core.Path.{_≡_};
+ghost use mathlib.Core.List.{[], _∷_};
+ghost use Rattle.std.specs.declared.option.Option.the-variants.{Some};
+ghost use Rattle.std.specs.declared.result.Result.the-variants.{Ok};
 ghost use Rattle.model.specs.Numbers.{kindNumber, kindLetter, kindCheck, pathNumber, pathCheck, arbiterNumber, arbiterCheck, coresCheck, counted};
 
 mod cores;
@@ -7,6 +10,7 @@ mod cores;
 pub use cores::Cores;
 use refusal::Reason;
 use refusal::Refusal;
+use std::fmt;
 
 // What a core asks of a line.
 #[derive(Clone, Copy, PartialEq, Eq, Debug)]
@@ -45,19 +49,22 @@ impl Kind {
     }
 
     pub fn number(self) -> u8
-        ensures { λ r. ⌜ r ≡ kindNumber self ⌝ }
+        ensures value { λ r. ⌜ r ≡ kindNumber self ⌝ }
+        ensures back { λ r. ⌜ kindCheck r ≡ Ok self ⌝ }
     {
         self as u8
     }
+}
 
-    // The letter of a report's rows.
-    pub fn letter(self) -> char
-        ensures { λ r. ⌜ r ≡ kindLetter self ⌝ }
-    {
-        match self {
-            Kind::Load => 'L',
-            Kind::Store => 'S',
-            Kind::Replace => 'R',
+// Its letter in rows.
+pub impl fmt::Display for Kind as KindDisplay {
+    ghost shown = { λ k. Some (kindLetter k ∷ []) };
+
+    fn fmt<W: fmt::Write>(&self, f: &mut fmt::Formatter<W>) -> fmt::Result {
+        match *self {
+            Kind::Load => write!(f, "L"),
+            Kind::Store => write!(f, "S"),
+            Kind::Replace => write!(f, "R"),
         }
     }
 }
@@ -74,7 +81,8 @@ impl Path {
     }
 
     pub fn number(self) -> u8
-        ensures { λ r. ⌜ r ≡ pathNumber self ⌝ }
+        ensures value { λ r. ⌜ r ≡ pathNumber self ⌝ }
+        ensures back { λ r. ⌜ pathCheck r ≡ Ok self ⌝ }
     {
         self as u8
     }
@@ -93,7 +101,8 @@ impl ArbiterChoice {
     }
 
     pub fn number(self) -> u8
-        ensures { λ r. ⌜ r ≡ arbiterNumber self ⌝ }
+        ensures value { λ r. ⌜ r ≡ arbiterNumber self ⌝ }
+        ensures back { λ r. ⌜ arbiterCheck r ≡ Ok self ⌝ }
     {
         self as u8
     }

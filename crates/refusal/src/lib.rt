@@ -1,6 +1,8 @@
 // Why a call says no: a reason, which has a number, and the place of the fault.
 ghost use mathlib.Core.Path.{_≡_};
-ghost use Rattle.refusal.specs.Numbers.{number, refusal};
+ghost use Rattle.std.specs.declared.option.Option.the-variants.{Some};
+ghost use Rattle.refusal.specs.Refusals.{number, refusal, refusedText};
+use std::fmt;
 
 // The sixteen reasons, in the order in which they are checked. The number of each is its place in this list, from 1.
 #[derive(Clone, Copy, PartialEq, Eq, Debug)]
@@ -61,5 +63,16 @@ impl Reason {
             reason: self,
             place,
         }
+    }
+}
+
+// As the programs print it.
+pub impl fmt::Display for Refusal as RefusalDisplay {
+    ghost shown = { λ x. Some (refusedText x) };
+
+    fn fmt<W: fmt::Write>(&self, f: &mut fmt::Formatter<W>) -> fmt::Result {
+        let number = self.reason.number();
+        let place = self.place;
+        write!(f, "refused,{number},{place}")
     }
 }

@@ -2,53 +2,62 @@
 use Prim.Native.Nat.{ℕ, suc, _+_, _-_, _<_, _≤_}
 use mathlib.Core.Path.{_≡_, refl, sym, ap, _∙_}
 use mathlib.Core.Bool.{true, false, cond}
-use mathlib.Core.List.{List}
+use mathlib.Core.List.{List, []}
+use mathlib.Core.Logic.{_⊎_, inl, inr}
 use native.Mathlib.Omega.{arith}
 use lib.Dec.{eqb, ltb}
-use lib.ListN.{length, set, getD}
+use lib.ListN.{length, set, getD, replicate}
 use Rattle.std.specs.declared.result.Result.{Result}
 use Rattle.std.specs.declared.result.Result.the-variants.{Ok, Err}
-use Rattle.std.proofs.shelf.Tests.{le-ltb}
+use Rattle.std.proofs.shelf.Lists.{getD-replicate, getD-past, getD-set-same, getD-set-other}
+use Rattle.std.proofs.shelf.Tests.{le-ltb, cases-lt, cases-eq}
 use Rattle.refusal.specs.declared.Reason.the-variants.{TrailingBytes}
 use Rattle.refusal.specs.declared.Refusal.{Refusal}
-use Rattle.refusal.specs.Numbers.{refusal}
+use Rattle.refusal.specs.Refusals.{refusal, andThen}
 use Rattle.trace.specs.declared.Record.{Record}
 use Rattle.trace.specs.declared.bundle.Span.{Span}
-use Rattle.trace.specs.Reading.{bigEndian, bit}
-use Rattle.trace.specs.Whole.{recordsIn, countOf}
-use Rattle.trace.specs.Bundle.{span, sound, spanAt, spansFrom}
+use Rattle.trace.specs.Reading.{bigEndian, bit, mapOf}
+use Rattle.trace.specs.Whole.{recordsFrom, recordsIn, countOf}
+use Rattle.trace.specs.Bundle.{span, noTrace, spanAt, spansFrom, Readable}
 
--- whether the records can all be read is told by their count
-abbrev pub soundCount : Result ℕ Refusal → Span → Result Span Refusal
-soundCount (Ok n) s = Ok s
-soundCount (Err f) s = Err f
+-- a span that lies within the bytes, from the count of its records
+counts : (x : Result (List Record) Refusal) (start end n : ℕ) → countOf x ≡ Ok n
+    → (Ok (span start end n) ≡ andThen x (λ rs. Ok (span start end (length rs))))
+    × ((rs : List Record) × (x ≡ Ok rs) × (length rs ≡ n))
+counts (Ok rs) start end n e = let m : length rs ≡ n = cc in (ap (λ k. Ok (span start end k)) (sym m), (rs, refl, m))
+counts (Err f) start end n e = let z : _≡_ {A = ℕ} 0 1 = cc in absurd (omega arith)
 
-sound-count : (x : Result (List Record) Refusal) (s : Span) → soundCount (countOf x) s ≡ sound x s
-sound-count (Ok rs) s = refl
-sound-count (Err f) s = refl
+faults : (x : Result (List Record) Refusal) (f : Refusal) (more : List Record → Result Span Refusal) → countOf x ≡ Err f → Err f ≡ andThen x more
+faults (Ok rs) f more e = let z : _≡_ {A = ℕ} 0 1 = cc in absurd (omega arith)
+faults (Err g) f more e = cc
 
--- a span that lies within the bytes
-pub span-within : (b : List ℕ) (at size : ℕ) (r : Result ℕ Refusal) → size ≡ bigEndian 2 b at → 2 ≤ length b - at → size ≤ length b - (at + 2)
-    → r ≡ countOf (recordsIn b (at + 2) (at + 2 + size) 0) → soundCount r (span (at + 2) (at + 2 + size)) ≡ spanAt b at
-unfolding spanAt
-span-within b at size r s h k e =
-    rw (← s, le-ltb (length b - at) 2 h, le-ltb (length b - (at + 2)) size k)
-    (ap (λ x. soundCount x (span (at + 2) (at + 2 + size))) e ∙ sound-count (recordsIn b (at + 2) (at + 2 + size) 0) _)
+module _ (b : List ℕ) (at size : ℕ) (s : size ≡ bigEndian 2 b at) (h : 2 ≤ length b - at) (k : size ≤ length b - (at + 2)) where
+  pub span-ok : (n : ℕ) → Ok n ≡ countOf (recordsIn b (at + 2) (at + 2 + size) 0)
+      → (Ok (span (at + 2) (at + 2 + size) n) ≡ spanAt b at) × Readable b (span (at + 2) (at + 2 + size) n)
+  unfolding spanAt
+  span-ok n e =
+      let c = counts (recordsIn b (at + 2) (at + 2 + size) 0) (at + 2) (at + 2 + size) n (sym e) in
+      (rw (← s, le-ltb (length b) (at + 2) (omega arith), le-ltb (length b) (at + 2 + size) (omega arith)) (c .0), c .1)
+
+  pub span-err : (f : Refusal) → Err f ≡ countOf (recordsIn b (at + 2) (at + 2 + size) 0) → Err f ≡ spanAt b at
+  unfolding spanAt
+  span-err f e =
+      rw (← s, le-ltb (length b) (at + 2) (omega arith), le-ltb (length b) (at + 2 + size) (omega arith)) (faults (recordsIn b (at + 2) (at + 2 + size) 0) f _ (sym e))
 
 module _ (b : List ℕ) (core at : ℕ) (spans : List Span) (low : core < 8) where
   left-is : 8 - core ≡ suc (8 - (core + 1))
   left-is = omega arith
 
-  pub skips : eqb (bit (getD b 0 0) core) 1 ≡ false → spansFrom (8 - core) b core at spans ≡ spansFrom (8 - (core + 1)) b (core + 1) at spans
+  pub skips : eqb (bit (mapOf b) core) 1 ≡ false → spansFrom (8 - core) b core at spans ≡ spansFrom (8 - (core + 1)) b (core + 1) at spans
   unfolding spansFrom
   skips h = rw (left-is, h)
 
-  pub takes : (s : Span) → eqb (bit (getD b 0 0) core) 1 ≡ true → Ok s ≡ spanAt b at
+  pub takes : (s : Span) → eqb (bit (mapOf b) core) 1 ≡ true → Ok s ≡ spanAt b at
       → spansFrom (8 - core) b core at spans ≡ spansFrom (8 - (core + 1)) b (core + 1) (s .end) (set spans core s)
   unfolding spansFrom
   takes s h e = rw (left-is, h, ← e)
 
-  pub stops : (f : Refusal) → eqb (bit (getD b 0 0) core) 1 ≡ true → Err f ≡ spanAt b at → spansFrom (8 - core) b core at spans ≡ Err f
+  pub stops : (f : Refusal) → eqb (bit (mapOf b) core) 1 ≡ true → Err f ≡ spanAt b at → spansFrom (8 - core) b core at spans ≡ Err f
   unfolding spansFrom
   stops f h e = rw (left-is, h, ← e)
 
@@ -56,3 +65,23 @@ pub all-seen : (b : List ℕ) (core at : ℕ) (spans : List Span) → 8 ≤ core
     → spansFrom (8 - core) b core at spans ≡ cond (ltb at (length b)) (Err (refusal TrailingBytes at)) (Ok (record { spans = spans }))
 unfolding spansFrom
 all-seen b core at spans h = let z : 8 - core ≡ 0 = omega arith in rw z
+
+none-there : (core : ℕ) → getD (replicate 8 noTrace) core noTrace ≡ noTrace
+none-there core =
+    elim (cases-lt core 8) [
+      | inl l ↦ getD-replicate 8 core noTrace noTrace l
+      | inr l ↦ getD-past (replicate 8 noTrace) core noTrace l
+    ]
+
+-- what every span keeps, one more or none
+pub readable-none : (b : List ℕ) (core : ℕ) → Readable b (getD (replicate 8 noTrace) core noTrace)
+unfolding recordsFrom
+readable-none b core = rw (none-there core) ([], refl, refl)
+
+pub readable-set : (b : List ℕ) (spans : List Span) (core : ℕ) (s : Span) → core < length spans → Readable b s
+    → ((k : ℕ) → Readable b (getD spans k noTrace)) → (k : ℕ) → Readable b (getD (set spans core s) k noTrace)
+readable-set b spans core s l one others k =
+    elim (cases-eq k core) [
+      | inl e ↦ rw (e, getD-set-same spans core s noTrace l) one
+      | inr e ↦ rw (getD-set-other spans core k s noTrace e) (others k)
+    ]

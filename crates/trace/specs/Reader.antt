@@ -8,7 +8,7 @@ use Rattle.std.specs.declared.result.Result.{Result}
 use Rattle.std.specs.declared.result.Result.the-variants.{Ok, Err}
 use Rattle.refusal.specs.declared.Reason.{Reason}
 use Rattle.refusal.specs.declared.Refusal.{Refusal}
-use Rattle.refusal.specs.Numbers.{refusal}
+use Rattle.refusal.specs.Refusals.{refusal}
 use Rattle.trace.specs.declared.Record.{Record}
 use Rattle.trace.specs.declared.reader.TraceReader.{TraceReader}
 use Rattle.trace.specs.Whole.{readAt, joined, recordsIn}

@@ -11,7 +11,7 @@ use Rattle.std.specs.declared.result.Result.{Result}
 use Rattle.std.specs.declared.result.Result.the-variants.{Ok, Err}
 use Rattle.refusal.specs.declared.Reason.{Reason}
 use Rattle.refusal.specs.declared.Refusal.{Refusal}
-use Rattle.refusal.specs.Numbers.{refusal}
+use Rattle.refusal.specs.Refusals.{refusal}
 use Rattle.model.specs.Numbers.{kindNumber}
 use Rattle.trace.specs.declared.Record.{Record}
 use Rattle.trace.specs.Reading.{decode, size, mapOf}

@@ -1,10 +1,9 @@
 // Bundles: a map byte, then for each core whose bit stands a length of two bytes and a trace.
 ghost use mathlib.Core.Path.{_≡_};
 ghost use Prim.Native.Nat.{_/_, _^_, _<_};
-ghost use lib.Dec.{eqb};
-ghost use lib.ListN.{length, getD, replicate};
-ghost use Rattle.trace.specs.Bundle.{span, spanAt, spansFrom, bundleOf};
-ghost use Rattle.trace.specs.Reading.{bit};
+ghost use lib.ListN.{length, replicate};
+ghost use Rattle.std.specs.Vec.{made};
+ghost use Rattle.trace.specs.Bundle.{noTrace, spanAt, spansFrom, bundleOf, Readable, AllReadable};
 ghost use Rattle.trace.specs.Writing.{differs};
 use crate::decode::bit_of;
 use crate::decode::two_bytes;
@@ -13,11 +12,12 @@ use model::Cores;
 use refusal::Reason;
 use refusal::Refusal;
 
-// Where a core's trace begins and ends in the bundle; both are 0 for a core that has none.
+// Where a core's trace begins and ends in the bundle, and how many records it has; all 0 for a core without a trace.
 #[derive(Clone, Copy, PartialEq, Eq, Debug)]
 pub struct Span {
     pub start: usize,
     pub end: usize,
+    pub records: usize,
 }
 
 // A bundle that was checked whole: the trace of each core.
@@ -35,7 +35,8 @@ fn has_bits_from(map: u8, cores: u8) -> bool
 
 // The trace whose length field stands at a place, checked whole.
 fn span_at(bytes: &[u8], at: usize) -> Result<Span, Refusal>
-    ensures { λ r. ⌜ r ≡ spanAt (now (bytes .entry)) at ⌝ }
+    ensures value { λ r. ⌜ r ≡ spanAt (now (bytes .entry)) at ⌝ }
+    ensures readable { λ r. ⌜ made r (Readable (now (bytes .entry))) ⌝ }
 {
     if bytes.len().saturating_sub(at) < 2 {
         return Err(Reason::CutShort.at(at));
@@ -46,18 +47,26 @@ fn span_at(bytes: &[u8], at: usize) -> Result<Span, Refusal>
         return Err(Reason::CutShort.at(at));
     }
     let end = start + size;
-    match count_records(bytes, start, end) {
-        Ok(_) => Ok(Span { start, end }),
-        Err(refusal) => Err(refusal),
-    }
+    let records = count_records(bytes, start, end)?;
+    Ok(Span {
+        start,
+        end,
+        records,
+    })
 }
 
 // The traces that the map byte names, one after another up to the end of the bytes.
 fn check_spans(bytes: &[u8]) -> Result<Bundle, Refusal>
     requires { ⌜ 0 < length (now bytes) ⌝ }
-    ensures { λ r. ⌜ r ≡ spansFrom 8 (now (bytes .entry)) 0 1 (replicate 8 (span 0 0)) ⌝ }
+    ensures value { λ r. ⌜ r ≡ spansFrom 8 (now (bytes .entry)) 0 1 (replicate 8 noTrace) ⌝ }
+    ensures readable { λ r. ⌜ made r (AllReadable (now (bytes .entry))) ⌝ }
 {
-    let mut spans = [Span { start: 0, end: 0 }; 8];
+    let none = Span {
+        start: 0,
+        end: 0,
+        records: 0,
+    };
+    let mut spans = [none; 8];
     let mut at = 1;
     for core in 0..8u8 {
         if bit_of(bytes[0], core) == 1 {
@@ -72,9 +81,10 @@ fn check_spans(bytes: &[u8]) -> Result<Bundle, Refusal>
     Ok(Bundle { spans })
 }
 
-// A bundle for so many cores, checked whole, or its first fault.
+// A bundle for so many cores, checked whole, or its first fault. Every trace of it reads to its end.
 pub fn check_bundle(bytes: &[u8], cores: Cores) -> Result<Bundle, Refusal>
-    ensures { λ r. ⌜ r ≡ bundleOf (now (bytes .entry)) (cores .count) ⌝ }
+    ensures value { λ r. ⌜ r ≡ bundleOf (now (bytes .entry)) (cores .count) ⌝ }
+    ensures readable { λ r. ⌜ made r (AllReadable (now (bytes .entry))) ⌝ }
 {
     if bytes.len() == 0 {
         return Err(Reason::CutShort.at(0));

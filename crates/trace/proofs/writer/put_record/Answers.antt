@@ -34,7 +34,7 @@ pub put-field-requires : need.put-field-requires
 put-field-requires c κs =
     let g = ap (λ l. length (cond (differs (c .args .rec .gap) 0) l [])) (c .gap-bytes .ensures) in
     let w = ap (λ l. length (cond (differs (c .args .rec .word) 0) l [])) (c .word-bytes .ensures) in
-    let k = ap (λ n. length (part (differs n 0) 1 n)) (c .number-kind .ensures) in
+    let k = ap (λ n. length (part (differs n 0) 1 n)) (c .number-kind .ensures .value) in
     omega (arith, encode-parts (c .args .rec) (c .args .before))
 
 pub returns : need.returns
@@ -48,7 +48,7 @@ returns c =
     let parts = encode-parts r (c .args .before) in
     let g = ap (λ l. cond (differs (r .gap) 0) l []) (c .gap-bytes .ensures) in
     let w = ap (λ l. cond (differs (r .word) 0) l []) (c .word-bytes .ensures) in
-    let k = ap (λ n. part (differs n 0) 1 n) (c .number-kind .ensures) in
+    let k = ap (λ n. part (differs n 0) 1 n) (c .number-kind .ensures .value) in
     let b-place : c .put-field-b .result ≡ c .put-field-a .result + length gap = c .put-field-b .ensures .place ∙ ap (λ l. c .put-field-a .result + length l) g in
     let d-place : c .put-field-d .result ≡ c .put-field-c .result + length word = c .put-field-d .ensures .place ∙ ap (λ l. c .put-field-c .result + length l) w in
     let e-place : c .put-field .result ≡ c .put-field-d .result + length kind = c .put-field .ensures .place ∙ ap (λ l. c .put-field-d .result + length l) k in
