@@ -101,7 +101,12 @@ fn push_total(text: &mut String, core: u8, span: Span) -> Result<(), AllocError>
 }
 
 // Adds the rows of so many cores.
-fn push_traces(text: &mut String, bytes: &[u8], cores: Cores, bundle: Bundle) -> Result<(), AllocError>
+fn push_traces(
+    text: &mut String,
+    bytes: &[u8],
+    cores: Cores,
+    bundle: Bundle,
+) -> Result<(), AllocError>
     requires { ⌜ AllReadable (now bytes) bundle ⌝ }
     ensures { λ r. ⌜ made r (λ _. string-bytes (now (text .exit)) ≡ string-bytes (now (text .entry)) ++ forCores (λ core. traceText (now (bytes .entry)) core (getD (bundle .spans) core noTrace)) (cores .count) 0) ⌝ }
 {

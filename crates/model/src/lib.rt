@@ -8,6 +8,8 @@ ghost use Rattle.model.specs.Numbers.{kindNumber, kindLetter, kindCheck, pathN
 mod cores;
 
 pub use cores::Cores;
+pub use cores::CoresDebug;
+pub use cores::CoresPartialEq;
 use refusal::Reason;
 use refusal::Refusal;
 use std::fmt;
@@ -52,7 +54,11 @@ impl Kind {
         ensures value { λ r. ⌜ r ≡ kindNumber self ⌝ }
         ensures back { λ r. ⌜ kindCheck r ≡ Ok self ⌝ }
     {
-        self as u8
+        match self {
+            Kind::Load => 0,
+            Kind::Store => 1,
+            Kind::Replace => 2,
+        }
     }
 }
 
@@ -84,7 +90,10 @@ impl Path {
         ensures value { λ r. ⌜ r ≡ pathNumber self ⌝ }
         ensures back { λ r. ⌜ pathCheck r ≡ Ok self ⌝ }
     {
-        self as u8
+        match self {
+            Path::ThroughMemory => 0,
+            Path::Direct => 1,
+        }
     }
 }
 
@@ -104,7 +113,11 @@ impl ArbiterChoice {
         ensures value { λ r. ⌜ r ≡ arbiterNumber self ⌝ }
         ensures back { λ r. ⌜ arbiterCheck r ≡ Ok self ⌝ }
     {
-        self as u8
+        match self {
+            ArbiterChoice::WorkConserving => 0,
+            ArbiterChoice::FixedSlots => 1,
+            ArbiterChoice::RoundRobin => 2,
+        }
     }
 }
 

@@ -44,7 +44,7 @@ module _ (out : List ℕ) (at : ℕ) (xs : List ℕ) (room : at + length xs ≤ 
       let g : drop (at + length xs + length ys) (put out at xs) ≡ drop (at + length (xs ++ ys)) out =
       sym (drop-drop (length ys) (at + length xs) (put out at xs)) ∙ (ap (drop (length ys)) put-back
       ∙ (drop-drop (length ys) (at + length xs) out ∙ ap (λ n. drop n out) (rw (length-append) (add-assoc at (length xs) (length ys))))) in
-      rw (put-front, g) (rw (append-assoc, append-assoc) refl)
+      rw (put-front, g) (simp append-assoc)
 
   -- the same, from what two calls ensure
   pub put-then : (b c : List ℕ) (n : ℕ) (ys : List ℕ) → b ≡ put out at xs → n ≡ at + length xs → c ≡ put b n ys → c ≡ put out at (xs ++ ys)

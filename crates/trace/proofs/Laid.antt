@@ -17,10 +17,12 @@ Seen = Bool × (Bool × Bool × Bool × Bool) × (ℕ × ℕ × ℕ × ℕ) × �
 
 pub laid : (g l w k : Bool) (r : Record) (rest : List ℕ) (before : ℕ) → let b : List ℕ = laidOut g l w k r ++ rest in
     _≡_ {A = Seen}
-    (leb 16 (mapOf b), (has b 0, has b 1, has b 2, has b 3), (gapIn b, lineIn b before, wordIn b, kindIn b), size (mapOf b))
-    (false, (g, l, w, k),
-    (cond g (bigEndian 2 (bytesOf 2 (r .gap)) 0) 0, cond l (r .line) before, cond w (bigEndian 4 (bytesOf 4 (r .word)) 0) 0, cond k (kindNumber (r .kind)) 0),
-    length (laidOut g l w k r))
+    (leb 16 (mapOf b), (has b 0, has b 1, has b 2, has b 3), (gapIn b, lineIn b before, wordIn b, kindIn b), size (mapOf b)) (
+      false,
+      (g, l, w, k),
+      (cond g (bigEndian 2 (bytesOf 2 (r .gap)) 0) 0, cond l (r .line) before, cond w (bigEndian 4 (bytesOf 4 (r .word)) 0) 0, cond k (kindNumber (r .kind)) 0),
+      length (laidOut g l w k r),
+    )
 laid true true true true r rest before = refl
 laid true true true false r rest before = refl
 laid true true false true r rest before = refl

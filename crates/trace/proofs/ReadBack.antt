@@ -61,8 +61,7 @@ reads-back r rest before fits =
     let s : redundant b before ≡ false =
     rw (gap, line, word, kind, ap (λ x. x .1 .0) f, ap (λ x. x .1 .1) f, ap (λ x. x .1 .2) f)
     (lean-fine (eqb (r .gap) 0) (eqb (r .line) before) (eqb (r .word) 0) (eqb (kindNumber (r .kind)) 1) fits) in
-    let x : recordIn b before ≡ r = same-record _ _ _ _ r gap line word (ap kindOf kind ∙ kind-back (r .kind)) in
-    (
+    let x : recordIn b before ≡ r = same-record _ _ _ _ r gap line word (ap kindOf kind ∙ kind-back (r .kind)) in (
       passes (leb 16 (mapOf b)) (ltb (length b) (size (mapOf b))) (strangeKind b) (redundant b before) (recordIn b before) (ap (λ x. x .0) f) t k s ∙ ap (λ y. Ok y) x,
       whole,
     )

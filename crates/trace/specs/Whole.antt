@@ -1,10 +1,10 @@
 -- Whole traces: the records of a part of the bytes, and records as bytes.
-use Prim.Native.Nat.{ℕ, zero, suc, _+_, _-_, _<_, _≤_}
+use Prim.Native.Nat.{ℕ, zero, suc, _+_, _-_}
 use mathlib.Core.Path.{_≡_}
-use mathlib.Core.Bool.{cond, _&&_, false}
+use mathlib.Core.Bool.{cond, false}
 use mathlib.Core.List.{List, [], _∷_, _++_}
 use lib.Dec.{leb}
-use lib.ListN.{length, getD, take, drop}
+use lib.ListN.{length, take, drop}
 use Rattle.std.specs.declared.option.Option.{Option}
 use Rattle.std.specs.declared.option.Option.the-variants.{Some, None}
 use Rattle.std.specs.declared.result.Result.{Result}
@@ -12,10 +12,9 @@ use Rattle.std.specs.declared.result.Result.the-variants.{Ok, Err}
 use Rattle.refusal.specs.declared.Reason.{Reason}
 use Rattle.refusal.specs.declared.Refusal.{Refusal}
 use Rattle.refusal.specs.Refusals.{refusal}
-use Rattle.model.specs.Numbers.{kindNumber}
 use Rattle.trace.specs.declared.Record.{Record}
 use Rattle.trace.specs.Reading.{decode, size, mapOf}
-use Rattle.trace.specs.Writing.{encode, differs}
+use Rattle.trace.specs.Writing.{encode, strayWord}
 
 -- the bytes from `at` up to `end`, as far as there are any
 abbrev pub window : List ℕ → ℕ → ℕ → List ℕ
@@ -68,7 +67,7 @@ encodeAll (r ∷ rs) before = encode r before ++ encodeAll rs (r .line)
 
 -- a record that can be written: it has a word only if it is a store
 abbrev pub Writable : Record → Type 0
-Writable r = (differs (r .word) 0 && differs (kindNumber (r .kind)) 1) ≡ false
+Writable r = strayWord r ≡ false
 
 abbrev pub AllWritable : List Record → Type 0
 AllWritable [] = Unit {0}

@@ -6,10 +6,10 @@ use lib.Dec.{eqb, ltb}
 use lib.ListN.{length, take, drop}
 use Rattle.std.specs.declared.result.Result.{Result}
 use Rattle.std.specs.declared.result.Result.the-variants.{Ok, Err}
-use Rattle.refusal.specs.declared.Reason.the-variants.{KindRange, RedundantField, NoSpace}
+use Rattle.refusal.specs.declared.Reason.the-variants.{RedundantField, NoSpace}
 use Rattle.refusal.specs.declared.Refusal.{Refusal}
-use Rattle.refusal.specs.Refusals.{refusal}
-use Rattle.model.specs.Numbers.{kindNumber, kindOf}
+use Rattle.refusal.specs.Refusals.{refusal, andThen}
+use Rattle.model.specs.Numbers.{kindNumber, kindCheck}
 use Rattle.trace.specs.declared.Record.{Record}
 use Rattle.trace.specs.declared.writer.Draft.{Draft}
 
@@ -44,12 +44,16 @@ encode r before =
 unfoldable pub put : List ℕ → ℕ → List ℕ → List ℕ
 put out at bytes = take at out ++ (bytes ++ drop (at + length bytes) out)
 
+-- a word without a store
+abbrev pub strayWord : Record → Bool
+strayWord r = differs (r .word) 0 && differs (kindNumber (r .kind)) 1
+
+abbrev pub unlessStray : Record → Result Record Refusal
+unlessStray r = cond (strayWord r) (Err (refusal RedundantField 0)) (Ok r)
+
 -- the record that a draft stands for
 abbrev pub recordFrom : Draft → Result Record Refusal
-recordFrom d =
-    cond (ltb 2 (d .kind)) (Err (refusal KindRange 0))
-    (cond (differs (d .word) 0 && differs (d .kind) 1) (Err (refusal RedundantField 0))
-    (Ok (record { gap = d .gap; line = d .line; word = d .word; kind = kindOf (d .kind) })))
+recordFrom d = andThen (kindCheck (d .kind)) (λ k. unlessStray (record { gap = d .gap; line = d .line; word = d .word; kind = k }))
 
 -- the next free place, where the record fits the free space
 abbrev pub placed : Result Record Refusal → List ℕ → ℕ → ℕ → Result ℕ Refusal

@@ -21,7 +21,7 @@ pub struct Span {
 }
 
 // A bundle that was checked whole: the trace of each core.
-#[derive(Clone, Copy, PartialEq, Eq, Debug)]
+#[derive(Clone, Copy, Debug)]
 pub struct Bundle {
     pub spans: [Span; 8],
 }

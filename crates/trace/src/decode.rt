@@ -9,7 +9,7 @@ use model::Kind;
 use refusal::Reason;
 
 // Bit `k` of a map byte.
-pub fn bit_of(map: u8, k: u8) -> u8
+pub(crate) fn bit_of(map: u8, k: u8) -> u8
     requires { ⌜ k < 8 ⌝ }
     ensures { λ r. ⌜ r ≡ bit map k ⌝ }
 {
@@ -35,20 +35,20 @@ fn kind_at(map: u8) -> usize
 }
 
 // The length of a record with this map byte.
-pub fn size_of(map: u8) -> usize
+pub(crate) fn size_of(map: u8) -> usize
     ensures { λ r. ⌜ r ≡ size map ⌝ }
 {
     kind_at(map) + bit_of(map, 3) as usize
 }
 
 // The first byte, 0 where there is none.
-pub fn map_of(bytes: &[u8]) -> u8
+pub(crate) fn map_of(bytes: &[u8]) -> u8
     ensures { λ r. ⌜ r ≡ mapOf (now (bytes .entry)) ⌝ }
 {
     if bytes.len() > 0 { bytes[0] } else { 0 }
 }
 
-pub fn two_bytes(bytes: &[u8], at: usize) -> u16
+pub(crate) fn two_bytes(bytes: &[u8], at: usize) -> u16
     requires { ⌜ at + 1 < length (now bytes) ⌝ }
     ensures { λ r. ⌜ r ≡ bigEndian 2 (now (bytes .entry)) at ⌝ }
 {
@@ -130,7 +130,7 @@ fn is_redundant(bytes: &[u8], before: u8) -> bool
 }
 
 // The kind of a number that is not above 2.
-pub fn kind_named(number: u8) -> Kind
+fn kind_named(number: u8) -> Kind
     ensures { λ r. ⌜ r ≡ kindOf number ⌝ }
 {
     match number {
@@ -141,7 +141,7 @@ pub fn kind_named(number: u8) -> Kind
 }
 
 // The record that the bytes begin with, or the lowest number that is wrong with it.
-pub fn decode(bytes: &[u8], before: u8) -> Result<Record, Reason>
+pub(crate) fn decode(bytes: &[u8], before: u8) -> Result<Record, Reason>
     ensures { λ r. ⌜ r ≡ decode (now (bytes .entry)) before ⌝ }
 {
     let map = map_of(bytes);

@@ -5,7 +5,10 @@ mod reader;
 mod writer;
 
 pub use bundle::Bundle;
+pub use bundle::BundleDebug;
 pub use bundle::Span;
+pub use bundle::SpanDebug;
+pub use bundle::SpanPartialEq;
 pub use bundle::check_bundle;
 use model::Kind;
 use model::KindDebug;
@@ -13,6 +16,8 @@ use model::KindPartialEq;
 pub use reader::TraceReader;
 pub use reader::check_trace;
 pub use writer::Draft;
+pub use writer::DraftDebug;
+pub use writer::DraftPartialEq;
 pub use writer::write_record;
 
 // One access of a core: `gap` is how long it waits before it, `word` what a store puts there.

@@ -73,6 +73,13 @@ impl<'a> TraceReader<'a> {
         }
     }
 
+    // How far it has read: where the next record stands.
+    pub fn place(&self) -> usize
+        ensures { λ r. ⌜ r ≡ now (self .entry) .at ⌝ }
+    {
+        self.at
+    }
+
     // The next record, or none at the end, again and again. A refused read moves nothing.
     pub fn next(&mut self) -> Result<Option<Record>, Refusal>
         ensures result { λ r. ⌜ r ≡ answer (now (self .entry)) ⌝ }

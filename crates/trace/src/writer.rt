@@ -10,8 +10,9 @@ ghost use Rattle.model.specs.Numbers.{kindNumber};
 ghost use Rattle.trace.specs.Whole.{recordsIn, Writable, Holds, ReadsBack};
 ghost use Rattle.trace.specs.Writing.{differs, bytesOf, mapBy, encode, put, recordFrom, placed, filled};
 use crate::Record;
-use crate::decode::kind_named;
 use crate::decode::size_of;
+use model::Kind;
+use model::KindPartialEq;
 use refusal::Reason;
 use refusal::Refusal;
 
@@ -30,17 +31,15 @@ impl Draft {
         ensures value { λ r. ⌜ r ≡ recordFrom self ⌝ }
         ensures writable { λ r. ⌜ made r Writable ⌝ }
     {
-        if self.kind > 2 {
-            return Err(Reason::KindRange.at(0));
-        }
-        if self.word != 0 && self.kind != 1 {
+        let kind = Kind::check(self.kind)?;
+        if self.word != 0 && kind != Kind::Store {
             return Err(Reason::RedundantField.at(0));
         }
         Ok(Record {
             gap: self.gap,
             line: self.line,
             word: self.word,
-            kind: kind_named(self.kind),
+            kind,
         })
     }
 }
@@ -109,12 +108,7 @@ fn put_record(out: &mut [u8], at: usize, before: u8, rec: Record) -> usize
 // Writes a record at a place of the buffer, after one of the line `before`, and answers the next free place.
 // A refusal writes nothing. What was written reads back as that record, and records written one after another
 // read back as a trace.
-pub fn write_record(
-    out: &mut [u8],
-    at: usize,
-    before: u8,
-    draft: Draft,
-) -> Result<usize, Refusal>
+pub fn write_record(out: &mut [u8], at: usize, before: u8, draft: Draft) -> Result<usize, Refusal>
     ensures result { λ r. ⌜ r ≡ placed (recordFrom draft) (now (out .entry)) at before ⌝ }
     ensures bytes { λ _. ⌜ now (out .exit) ≡ filled (recordFrom draft) (now (out .entry)) at before ⌝ }
     ensures holds { λ r. ⌜ Holds r (recordFrom draft) (now (out .exit)) at before ⌝ }

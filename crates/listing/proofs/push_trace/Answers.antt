@@ -2,6 +2,8 @@ use Prim.Native.Nat.{_<_, _≤_}
 use mathlib.Core.Path.{_≡_, sym, ap, _∙_}
 use native.Mathlib.Omega.{arith}
 use Rattle.std.specs.declared.result.Result.the-variants.{Ok}
+use Rattle.std.specs.Of.String.{string-bytes}
+use Rattle.trace.specs.Reader.{remaining}
 use Rattle.trace.proofs.Counts.{moves}
 use Rattle.listing.proofs.Parts.{row-more}
 use Rattle.listing.proofs.push_trace.Needs as need
@@ -18,5 +20,5 @@ loop-access-less c = let f = forward c in omega arith
 pub loop-access-again : need.loop-access-again
 loop-access-again c =
     let f = forward c in
-    let m = row-more _ _ (c .args .core) (c .loop-access .index) _ _ (c .loop-access .inv .2) (c .loop-access .inv .3) (c .checked-next .result) (c .checked-next .ensures .rest) _ (c .in-Some .access) (c .in-Some .is) (c .in-Continue-push-row .ensures tt) in
+    let m = row-more _ _ (c .args .core) (c .loop-access .index) (remaining (c .loop-access .reader)) (remaining (c .checked-next .last .reader)) (c .loop-access .inv .2) (c .loop-access .inv .3) (c .checked-next .result) (c .checked-next .ensures .rest) (string-bytes (c .push-row .last .text)) (c .in-Some .access) (c .in-Some .is) (c .in-Continue-push-row .ensures tt) in
     (omega arith, f .2 ∙ c .loop-access .inv .1, m .0, m .1)

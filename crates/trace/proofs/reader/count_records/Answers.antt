@@ -33,8 +33,7 @@ loop-n-less c = let f = forward c in omega arith
 
 pub loop-n-again : need.loop-n-again
 loop-n-again c =
-    let f = forward c in
-    (
+    let f = forward c in (
       omega arith,
       f .2 ∙ c .loop-n .inv .1,
       count-some _ (c .loop-n .n) _ _ (c .next .result) (c .loop-n .inv .2) (c .next .ensures .rest) (c .in-Some .field-0) (gave c),
