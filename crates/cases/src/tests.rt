@@ -135,7 +135,7 @@ fn a_bundle_is_read() -> Result<(), Fail> {
     check_eq(reader.next()?, Some(load))?;
     check_eq(reader.next()?, None)?;
     check_eq(reader.next()?, None)?;
-    check_eq(reader.place(), 14)
+    check_eq(reader.position(), (14, 2))
 }
 
 #[test]
@@ -145,7 +145,7 @@ fn a_refused_read_moves_nothing() -> Result<(), Fail> {
     let refusal = Reason::UnknownMapBits.at(1);
     check_eq(reader.next(), Err(refusal))?;
     check_eq(reader.next(), Err(refusal))?;
-    check_eq(reader.place(), 1)
+    check_eq(reader.position(), (1, 0))
 }
 
 #[test]

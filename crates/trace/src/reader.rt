@@ -73,11 +73,11 @@ impl<'a> TraceReader<'a> {
         }
     }
 
-    // How far it has read: where the next record stands.
-    pub fn place(&self) -> usize
-        ensures { λ r. ⌜ r ≡ now (self .entry) .at ⌝ }
+    // How far it has read: where the next record stands and the line of the record before, from which `resume` goes on.
+    pub fn position(&self) -> (usize, u8)
+        ensures { λ r. ⌜ r ≡ (now (self .entry) .at, now (self .entry) .before) ⌝ }
     {
-        self.at
+        (self.at, self.before)
     }
 
     // The next record, or none at the end, again and again. A refused read moves nothing.
