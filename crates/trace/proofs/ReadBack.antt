@@ -14,8 +14,7 @@ use Rattle.model.specs.declared.Kind.the-variants.{Load, Store, Replace}
 use Rattle.model.specs.Numbers.{kindNumber, kindOf}
 use Rattle.trace.specs.declared.Record.{Record}
 use Rattle.trace.specs.Reading.{decode, size, mapOf, has, gapIn, lineIn, wordIn, kindIn, recordIn, strangeKind, redundant}
-use Rattle.trace.specs.Writing.{encode, laidOut, differs}
-use Rattle.trace.specs.Whole.{Writable}
+use Rattle.trace.specs.Writing.{encode, laidOut, differs, Writable}
 use Rattle.trace.proofs.Accepted.{tested}
 use Rattle.trace.proofs.Laid.{laid}
 

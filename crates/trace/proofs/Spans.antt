@@ -17,7 +17,7 @@ use Rattle.refusal.specs.Refusals.{refusal, andThen}
 use Rattle.trace.specs.declared.Record.{Record}
 use Rattle.trace.specs.declared.bundle.Span.{Span}
 use Rattle.trace.specs.Reading.{bigEndian, bit, mapOf}
-use Rattle.trace.specs.Whole.{recordsFrom, recordsIn, countOf}
+use Rattle.trace.specs.Whole.{recordsFrom, recordsIn, countOf, Rewritten}
 use Rattle.trace.specs.Bundle.{span, noTrace, spanAt, spansFrom, Readable}
 
 -- a span that lies within the bytes, from the count of its records
@@ -32,12 +32,12 @@ faults (Ok rs) f more e = let z : _≡_ {A = ℕ} 0 1 = cc in absurd (omega arit
 faults (Err g) f more e = cc
 
 module _ (b : List ℕ) (at size : ℕ) (s : size ≡ bigEndian 2 b at) (h : 2 ≤ length b - at) (k : size ≤ length b - (at + 2)) where
-  pub span-ok : (n : ℕ) → Ok n ≡ countOf (recordsIn b (at + 2) (at + 2 + size) 0)
+  pub span-ok : (n : ℕ) → Rewritten b (at + 2) (at + 2 + size) → Ok n ≡ countOf (recordsIn b (at + 2) (at + 2 + size) 0)
       → (Ok (span (at + 2) (at + 2 + size) n) ≡ spanAt b at) × Readable b (span (at + 2) (at + 2 + size) n)
   unfolding spanAt
-  span-ok n e =
+  span-ok n again e =
       let c = counts (recordsIn b (at + 2) (at + 2 + size) 0) (at + 2) (at + 2 + size) n (sym e) in
-      (rw (← s, le-ltb (length b) (at + 2) (omega arith), le-ltb (length b) (at + 2 + size) (omega arith)) (c .0), c .1)
+      (rw (← s, le-ltb (length b) (at + 2) (omega arith), le-ltb (length b) (at + 2 + size) (omega arith)) (c .0), record { records = c .1 .0; read = c .1 .1; counted = c .1 .2; rewritten = again (c .1 .0) (c .1 .1) })
 
   pub span-err : (f : Refusal) → Err f ≡ countOf (recordsIn b (at + 2) (at + 2 + size) 0) → Err f ≡ spanAt b at
   unfolding spanAt
@@ -76,7 +76,7 @@ none-there core =
 -- what every span keeps, one more or none
 pub readable-none : (b : List ℕ) (core : ℕ) → Readable b (getD (replicate 8 noTrace) core noTrace)
 unfolding recordsFrom
-readable-none b core = rw (none-there core) ([], refl, refl)
+readable-none b core = rw (none-there core) (record { records = []; read = refl; counted = refl; rewritten = refl })
 
 pub readable-set : (b : List ℕ) (spans : List Span) (core : ℕ) (s : Span) → core < length spans → Readable b s
     → ((k : ℕ) → Readable b (getD spans k noTrace)) → (k : ℕ) → Readable b (getD (set spans core s) k noTrace)

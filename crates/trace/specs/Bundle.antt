@@ -15,7 +15,7 @@ use Rattle.trace.specs.declared.bundle.Span.{Span}
 use Rattle.trace.specs.declared.bundle.Bundle.{Bundle}
 use Rattle.trace.specs.Reading.{bigEndian, bit, mapOf}
 use Rattle.trace.specs.Writing.{differs}
-use Rattle.trace.specs.Whole.{recordsIn}
+use Rattle.trace.specs.Whole.{window, recordsIn, encodeAll}
 
 abbrev pub span : ℕ → ℕ → ℕ → Span
 span from to count = record { start = from; end = to; records = count }
@@ -47,9 +47,12 @@ bundleOf bytes cores =
     cond (eqb (length bytes) 0) (Err (refusal CutShort 0))
     (cond (differs (mapOf bytes / 2 ^ cores) 0) (Err (refusal UnknownMapBits 0)) (spansFrom 8 bytes 0 1 (replicate 8 noTrace)))
 
--- the records of a trace inside the bytes, as many as were counted
-abbrev pub Readable : List ℕ → Span → Type 0
-Readable bytes s = (rs : List Record) × (recordsIn bytes (s .start) (s .end) 0 ≡ Ok rs) × (length rs ≡ s .records)
+-- the records of a trace inside the bytes: as many as were counted, and written again they are those bytes
+pub record Readable (bytes : List ℕ) (s : Span) : Type 0 where
+  pub records : List Record
+  pub read : recordsIn bytes (s .start) (s .end) 0 ≡ Ok records
+  pub counted : length records ≡ s .records
+  pub rewritten : encodeAll records 0 ≡ window bytes (s .start) (s .end)
 
 -- **Every trace of a checked bundle reads to its end without a fault.**
 abbrev pub AllReadable : List ℕ → Bundle → Type 0

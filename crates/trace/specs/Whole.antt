@@ -1,7 +1,7 @@
 -- Whole traces: the records of a part of the bytes, and records as bytes.
 use Prim.Native.Nat.{ℕ, zero, suc, _+_, _-_}
 use mathlib.Core.Path.{_≡_}
-use mathlib.Core.Bool.{cond, false}
+use mathlib.Core.Bool.{cond}
 use mathlib.Core.List.{List, [], _∷_, _++_}
 use lib.Dec.{leb}
 use lib.ListN.{length, take, drop}
@@ -11,10 +11,11 @@ use Rattle.std.specs.declared.result.Result.{Result}
 use Rattle.std.specs.declared.result.Result.the-variants.{Ok, Err}
 use Rattle.refusal.specs.declared.Reason.{Reason}
 use Rattle.refusal.specs.declared.Refusal.{Refusal}
-use Rattle.refusal.specs.Refusals.{refusal}
+use Rattle.refusal.specs.Refusals.{refusal, andThen}
 use Rattle.trace.specs.declared.Record.{Record}
+use Rattle.trace.specs.declared.writer.Draft.{Draft}
 use Rattle.trace.specs.Reading.{decode, size, mapOf}
-use Rattle.trace.specs.Writing.{encode, strayWord}
+use Rattle.trace.specs.Writing.{encode, recordFrom, placed, filled}
 
 -- the bytes from `at` up to `end`, as far as there are any
 abbrev pub window : List ℕ → ℕ → ℕ → List ℕ
@@ -65,20 +66,10 @@ abbrev pub encodeAll : List Record → ℕ → List ℕ
 encodeAll [] before = []
 encodeAll (r ∷ rs) before = encode r before ++ encodeAll rs (r .line)
 
--- a record that can be written: it has a word only if it is a store
-abbrev pub Writable : Record → Type 0
-Writable r = strayWord r ≡ false
+-- **An accepted trace, written again from its records, has the same bytes**: one inside other bytes, and one alone.
+abbrev pub Rewritten : List ℕ → ℕ → ℕ → Type 0
+Rewritten bytes at end = (rs : List Record) → recordsIn bytes at end 0 ≡ Ok rs → encodeAll rs 0 ≡ window bytes at end
 
-abbrev pub AllWritable : List Record → Type 0
-AllWritable [] = Unit {0}
-AllWritable (r ∷ rs) = Writable r × AllWritable rs
-
--- **Records written as a trace read back the same**, whatever stands before and after them.
-abbrev pub ReadsBack : Type 0
-ReadsBack = (front rest : List ℕ) (rs : List Record) (before : ℕ) → AllWritable rs
-    → recordsIn (front ++ (encodeAll rs before ++ rest)) (length front) (length front + length (encodeAll rs before)) before ≡ Ok rs
-
--- **An accepted trace, written again from its records, has the same bytes.**
 abbrev pub SameBytes : List ℕ → Type 0
 SameBytes bytes = (rs : List Record) → traceIn bytes ≡ Ok rs → encodeAll rs 0 ≡ bytes
 
@@ -87,3 +78,20 @@ abbrev pub Holds : Result ℕ Refusal → Result Record Refusal → List ℕ →
 Holds (Ok next) (Ok r) out at before = recordsIn out at next before ≡ Ok (r ∷ [])
 Holds (Ok next) (Err f) out at before = ⊥
 Holds (Err f) x out at before = Unit {0}
+
+-- drafts written one after another, each at the place that the call before answered, lead from one buffer and place
+-- to another
+abbrev pub Written : List ℕ → ℕ → ℕ → List Draft → List ℕ → ℕ → Type 0
+Written out at before [] out′ next = (out′ ≡ out) × (next ≡ at)
+Written out at before (d ∷ ds) out′ next =
+    (n : ℕ) × (placed (recordFrom d) out at before ≡ Ok n) × Written (filled (recordFrom d) out at before) n (d .line) ds out′ next
+
+-- the records that they stand for
+abbrev pub recordsFor : List Draft → Result (List Record) Refusal
+recordsFor [] = Ok []
+recordsFor (d ∷ ds) = andThen (recordFrom d) (λ r. joined r (recordsFor ds))
+
+-- **Records written as a trace read back the same.**
+abbrev pub ReadsBack : Type 0
+ReadsBack = (out : List ℕ) (at before : ℕ) (ds : List Draft) (out′ : List ℕ) (next : ℕ)
+    → Written out at before ds out′ next → recordsIn out′ at next before ≡ recordsFor ds

@@ -1,6 +1,7 @@
 -- A trace record as bytes, and what writing one into a buffer answers and leaves.
 use Prim.Native.Nat.{ℕ, zero, suc, _+_, _-_, _/_, _%_}
-use mathlib.Core.Bool.{Bool, cond, _&&_, not}
+use mathlib.Core.Path.{_≡_}
+use mathlib.Core.Bool.{Bool, false, cond, _&&_, not}
 use mathlib.Core.List.{List, [], _∷_, _++_}
 use lib.Dec.{eqb, ltb}
 use lib.ListN.{length, take, drop}
@@ -47,6 +48,10 @@ put out at bytes = take at out ++ (bytes ++ drop (at + length bytes) out)
 -- a word without a store
 abbrev pub strayWord : Record → Bool
 strayWord r = differs (r .word) 0 && differs (kindNumber (r .kind)) 1
+
+-- a record that can be written
+abbrev pub Writable : Record → Type 0
+Writable r = strayWord r ≡ false
 
 abbrev pub unlessStray : Record → Result Record Refusal
 unlessStray r = cond (strayWord r) (Err (refusal RedundantField 0)) (Ok r)

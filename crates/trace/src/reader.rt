@@ -2,7 +2,7 @@
 ghost use mathlib.Core.Path.{_≡_};
 ghost use lib.ListN.{length};
 ghost use Rattle.trace.specs.Reader.{answer, after, remaining, taken};
-ghost use Rattle.trace.specs.Whole.{window, readAt, followed, recordsIn, traceIn, countOf, SameBytes};
+ghost use Rattle.trace.specs.Whole.{window, readAt, followed, recordsIn, traceIn, countOf, Rewritten, SameBytes};
 use crate::Record;
 use crate::decode::decode;
 use crate::decode::map_of;
@@ -104,6 +104,7 @@ impl<'a> TraceReader<'a> {
 // How many records there are from `at` up to `end`, or the first fault among them.
 pub(crate) fn count_records(bytes: &[u8], at: usize, end: usize) -> Result<usize, Refusal>
     ensures count { λ r. ⌜ r ≡ countOf (recordsIn (now (bytes .entry)) at end 0) ⌝ }
+    ensures rewritten { λ _. ⌜ Rewritten (now (bytes .entry)) at end ⌝ }
     ensures same { λ _. ⌜ SameBytes (now (bytes .entry)) ⌝ }
 {
     let mut reader = TraceReader::resume(bytes, at, end, 0);

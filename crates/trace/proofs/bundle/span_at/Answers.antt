@@ -23,5 +23,5 @@ returns-in-Break-records c =
 
 pub returns : need.returns
 returns c =
-    let s = span-ok (c .args .bytes .now) (c .args .at) (c .two-bytes-size .result) (c .two-bytes-size .ensures) (omega arith) (omega arith) _ (c .in-Continue-records .ensures tt .count) in
+    let s = span-ok (c .args .bytes .now) (c .args .at) (c .two-bytes-size .result) (c .two-bytes-size .ensures) (omega arith) (omega arith) _ (c .in-Continue-records .ensures tt .rewritten) (c .in-Continue-records .ensures tt .count) in
     record { value = s .0; readable = s .1 }

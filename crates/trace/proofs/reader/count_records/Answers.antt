@@ -6,7 +6,7 @@ use Rattle.std.specs.declared.option.Option.the-variants.{Some, None}
 use Rattle.std.specs.declared.result.Result.the-variants.{Ok, Err}
 use Rattle.std.proofs.shelf.Results.{err-from-errBy}
 use Rattle.trace.proofs.Windows.{Bytes}
-use Rattle.trace.proofs.Traces.{accepted-rewrites}
+use Rattle.trace.proofs.Traces.{rewrites-in, accepted-rewrites}
 use Rattle.trace.proofs.Counts.{plus-none, moves, count-some, count-none, count-err}
 use Rattle.trace.proofs.reader.count_records.Needs as need
 
@@ -16,6 +16,7 @@ returns-in-Break-next c =
     let bytes : Bytes (c .args .bytes .now) = search needs in
     record {
       count = p .1 ∙ (ap Err (p .2) ∙ count-err _ (c .loop-n .n) _ _ (c .next .result) (c .loop-n .inv .2) (c .next .ensures .rest) _ (c .in-Break-next .was tt));
+      rewritten = rewrites-in (c .args .bytes .now) (c .args .at) (c .args .end) bytes;
       same = accepted-rewrites (c .args .bytes .now) bytes;
     }
 
@@ -44,5 +45,6 @@ returns c =
     let bytes : Bytes (c .args .bytes .now) = search needs in
     record {
       count = count-none _ (c .loop-n .n) _ _ (c .next .result) (c .loop-n .inv .2) (c .next .ensures .rest) (c .in-Continue-next .was tt ∙ ap (λ o. Ok o) (c .in-rest .is));
+      rewritten = rewrites-in (c .args .bytes .now) (c .args .at) (c .args .end) bytes;
       same = accepted-rewrites (c .args .bytes .now) bytes;
     }
