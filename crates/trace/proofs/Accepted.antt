@@ -13,6 +13,7 @@ use Rattle.refusal.specs.declared.Reason.{Reason}
 use Rattle.refusal.specs.declared.Reason.the-variants.{UnknownMapBits, CutShort, KindByte, RedundantField}
 use Rattle.trace.specs.declared.Record.{Record}
 use Rattle.trace.specs.Reading.{decode, size, mapOf, strangeKind, redundant, recordIn}
+use Rattle.trace.proofs.Apart.{err-ok}
 
 -- the tests of `decode`, over their answers
 abbrev pub tested : Bool → Bool → Bool → Bool → Record → Result Record Reason
@@ -21,10 +22,10 @@ tested m t k r x =
 
 all-passed : (m t k r : Bool) (x rec : Record) → tested m t k r x ≡ Ok rec
     → (m ≡ false) × (t ≡ false) × (k ≡ false) × (r ≡ false) × (rec ≡ x)
-all-passed true t k r x rec h = let z : _≡_ {A = ℕ} 0 1 = cc in absurd (omega arith)
-all-passed false true k r x rec h = let z : _≡_ {A = ℕ} 0 1 = cc in absurd (omega arith)
-all-passed false false true r x rec h = let z : _≡_ {A = ℕ} 0 1 = cc in absurd (omega arith)
-all-passed false false false true x rec h = let z : _≡_ {A = ℕ} 0 1 = cc in absurd (omega arith)
+all-passed true t k r x rec h = err-ok _ _ h
+all-passed false true k r x rec h = err-ok _ _ h
+all-passed false false true r x rec h = err-ok _ _ h
+all-passed false false false true x rec h = err-ok _ _ h
 all-passed false false false false x rec h = (refl, refl, refl, refl, cc)
 
 pub record Accepted (b : List ℕ) (before : ℕ) (rec : Record) : Type 0 where

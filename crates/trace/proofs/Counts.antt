@@ -15,6 +15,7 @@ use Rattle.trace.specs.declared.reader.TraceReader.{TraceReader}
 use Rattle.trace.specs.Reader.{readHere, found, answer, passed, after, taken, remaining}
 use Rattle.trace.specs.Whole.{joined, countOf}
 use Rattle.trace.proofs.Steps.{has-read}
+use Rattle.trace.proofs.Apart.{err-ok, none-some}
 
 -- so many more
 abbrev pub plus : ℕ → Result ℕ Refusal → Result ℕ Refusal
@@ -31,10 +32,10 @@ one-more n r (Err f) = refl
 
 moves-by : (t : TraceReader) (x : Result (Option (Record × ℕ)) Reason) (r : Record) → readHere t ≡ x → found (t .at) x ≡ Ok (Some r)
     → (t .at < passed t x .at) × (passed t x .at ≤ t .end) × (passed t x .end ≡ t .end)
-moves-by t (Ok None) r e h = let z : _≡_ {A = ℕ} 0 1 = cc in absurd (omega arith)
+moves-by t (Ok None) r e h = none-some _ h
 moves-by t (Ok (Some (q, next))) r e h =
     let read = has-read (now (t .bytes)) (t .at) (t .end) (t .before) q next e in (read .forward, read .within, refl)
-moves-by t (Err why) r e h = let z : _≡_ {A = ℕ} 0 1 = cc in absurd (omega arith)
+moves-by t (Err why) r e h = err-ok _ _ h
 
 -- a read that gives a record moves on
 pub moves : (t t′ : TraceReader) (r : Record) → t′ ≡ after t → answer t ≡ Ok (Some r) → (t .at < t′ .at) × (t′ .at ≤ t .end) × (t′ .end ≡ t .end)

@@ -19,16 +19,17 @@ use Rattle.trace.specs.declared.bundle.Span.{Span}
 use Rattle.trace.specs.Reading.{bigEndian, bit, mapOf}
 use Rattle.trace.specs.Whole.{recordsFrom, recordsIn, countOf, Rewritten}
 use Rattle.trace.specs.Bundle.{span, noTrace, spanAt, spansFrom, Readable}
+use Rattle.trace.proofs.Apart.{err-ok, ok-err}
 
 -- a span that lies within the bytes, from the count of its records
 counts : (x : Result (List Record) Refusal) (start end n : ℕ) → countOf x ≡ Ok n
     → (Ok (span start end n) ≡ andThen x (λ rs. Ok (span start end (length rs))))
     × ((rs : List Record) × (x ≡ Ok rs) × (length rs ≡ n))
 counts (Ok rs) start end n e = let m : length rs ≡ n = cc in (ap (λ k. Ok (span start end k)) (sym m), (rs, refl, m))
-counts (Err f) start end n e = let z : _≡_ {A = ℕ} 0 1 = cc in absurd (omega arith)
+counts (Err f) start end n e = err-ok _ _ e
 
 faults : (x : Result (List Record) Refusal) (f : Refusal) (more : List Record → Result Span Refusal) → countOf x ≡ Err f → Err f ≡ andThen x more
-faults (Ok rs) f more e = let z : _≡_ {A = ℕ} 0 1 = cc in absurd (omega arith)
+faults (Ok rs) f more e = ok-err _ _ e
 faults (Err g) f more e = cc
 
 module _ (b : List ℕ) (at size : ℕ) (s : size ≡ bigEndian 2 b at) (h : 2 ≤ length b - at) (k : size ≤ length b - (at + 2)) where

@@ -18,6 +18,7 @@ use Rattle.trace.specs.Reading.{decode, size, mapOf}
 use Rattle.trace.specs.Whole.{window, ended, readAt, joined, followed, recordsFrom, recordsIn}
 use Rattle.trace.proofs.Accepted.{accepted}
 use Rattle.trace.proofs.Windows.{window-length}
+use Rattle.trace.proofs.Apart.{err-ok, none-some, some-none}
 
 -- the parts of a read that found a record
 pub record Read (b : List ℕ) (at end before : ℕ) (r : Record) (next : ℕ) : Type 0 where
@@ -29,11 +30,11 @@ pub record Read (b : List ℕ) (at end before : ℕ) (r : Record) (next : ℕ) :
 
 split : (past : Bool) (x : Result Record Reason) (n : ℕ) (r : Record) (next : ℕ) → cond past (Ok None) (ended x n) ≡ Ok (Some (r, next))
     → (past ≡ false) × (x ≡ Ok r) × (next ≡ n)
-split true x n r next h = let z : _≡_ {A = ℕ} 0 1 = cc in absurd (omega arith)
+split true x n r next h = none-some _ h
 split false (Ok y) n r next h =
     let e : _≡_ {A = Record × ℕ} (y, n) (r, next) = cc in
     (refl, ap (λ p. Ok (p .0)) e, sym (ap (λ p. p .1) e))
-split false (Err why) n r next h = let z : _≡_ {A = ℕ} 0 1 = cc in absurd (omega arith)
+split false (Err why) n r next h = err-ok _ _ h
 
 pub has-read : (b : List ℕ) (at end before : ℕ) (r : Record) (next : ℕ) → readAt b at end before ≡ Ok (Some (r, next)) → Read b at end before r next
 unfolding readAt
@@ -52,8 +53,8 @@ read-none b at end before h = rw (le-leb end at h)
 
 ends : (past : Bool) (x : Result Record Reason) (n : ℕ) → cond past (Ok None) (ended x n) ≡ Ok None → past ≡ true
 ends true x n h = refl
-ends false (Ok y) n h = let z : _≡_ {A = ℕ} 0 1 = cc in absurd (omega arith)
-ends false (Err why) n h = let z : _≡_ {A = ℕ} 0 1 = cc in absurd (omega arith)
+ends false (Ok y) n h = some-none _ h
+ends false (Err why) n h = err-ok _ _ h
 
 -- and only there
 pub none-read : (b : List ℕ) (at end before : ℕ) → readAt b at end before ≡ Ok None → end ≤ at

@@ -28,6 +28,7 @@ use Rattle.trace.proofs.Canonical.{canonical}
 use Rattle.trace.proofs.Windows.{Bytes, window-drop, window-between, window-all, window-bytes, window-length}
 use Rattle.trace.proofs.Buffers.{put-none, put-then}
 use Rattle.trace.proofs.Steps.{has-read, none-read, read-none, read-some, rest-of}
+use Rattle.trace.proofs.Apart.{err-ok}
 
 moved-on : (front r xs rest : List ℕ) → front ++ ((r ++ xs) ++ rest) ≡ (front ++ r) ++ (xs ++ rest)
 moved-on front r xs rest = simp append-assoc
@@ -91,7 +92,7 @@ pub record Wrote (out : List ℕ) (at before : ℕ) (d : Draft) (n : ℕ) : Type
 
 -- a test that passed
 passed : {A : Type 0} (t : Bool) (f : Refusal) (x y : A) → cond t (Err f) (Ok x) ≡ Ok y → (t ≡ false) × (y ≡ x)
-passed true f x y h = let z : _≡_ {A = ℕ} 0 1 = cc in absurd (omega arith)
+passed true f x y h = err-ok _ _ h
 passed false f x y h = (refl, cc)
 
 checked : (x : Result Kind Refusal) (d : Draft) (r : Record) → andThen x (λ k. unlessStray (record { gap = d .gap; line = d .line; word = d .word; kind = k })) ≡ Ok r
@@ -99,7 +100,7 @@ checked : (x : Result Kind Refusal) (d : Draft) (r : Record) → andThen x (λ k
 checked (Ok k) d r h =
     let p = passed (strayWord (record { gap = d .gap; line = d .line; word = d .word; kind = k })) _ _ r h in
     (subst Writable (sym (p .1)) (p .0), ap (λ x. x .line) (p .1))
-checked (Err f) d r h = let z : _≡_ {A = ℕ} 0 1 = cc in absurd (omega arith)
+checked (Err f) d r h = err-ok _ _ h
 
 wrote-by : (out : List ℕ) (at before : ℕ) (d : Draft) (n : ℕ) (x : Result Record Refusal) → recordFrom d ≡ x → placed x out at before ≡ Ok n → Wrote out at before d n
 wrote-by out at before d n (Ok r) e h =
@@ -116,7 +117,7 @@ wrote-by out at before d n (Ok r) e h =
       place = p .1;
       bytes = ap (λ y. filled y out at before) e ∙ rw (p .0);
     }
-wrote-by out at before d n (Err f) e h = let z : _≡_ {A = ℕ} 0 1 = cc in absurd (omega arith)
+wrote-by out at before d n (Err f) e h = err-ok _ _ h
 
 wrote : (out : List ℕ) (at before : ℕ) (d : Draft) (n : ℕ) → placed (recordFrom d) out at before ≡ Ok n → Wrote out at before d n
 wrote out at before d n h = wrote-by out at before d n (recordFrom d) refl h
@@ -157,7 +158,7 @@ written-reads-back out at before (d ∷ ds) out′ next (n, p, w) =
 -- the records that follow one
 joined-ok : (r : Record) (y : Result (List Record) Refusal) (rs : List Record) → joined r y ≡ Ok rs → (qs : List Record) × (y ≡ Ok qs) × (r ∷ qs ≡ rs)
 joined-ok r (Ok qs) rs h = (qs, refl, cc)
-joined-ok r (Err f) rs h = let z : _≡_ {A = ℕ} 0 1 = cc in absurd (omega arith)
+joined-ok r (Err f) rs h = err-ok _ _ h
 
 nothing-left : (b : List ℕ) (at end : ℕ) → end ≤ at → [] ≡ window b at end
 nothing-left b at end h = let z : end - at ≡ 0 = omega arith in rw z
@@ -179,7 +180,7 @@ rewrites-one b at end before (Ok (Some (r, next))) more rs h e k rest =
     let others : encodeAll (j .0) (r .line) ≡ drop n w =
     rest next (r .line) (j .0) (read .forward) (j .1) ∙ (ap (λ p. window b p end) (read .place) ∙ sym (window-drop b at end n (omega (arith, read .place, read .within)))) in
     ap (λ l. encodeAll l before) (sym (j .2)) ∙ rw (← one, others) (take-append-drop n w)
-rewrites-one b at end before (Err why) more rs h e k rest = let z : _≡_ {A = ℕ} 0 1 = cc in absurd (omega arith)
+rewrites-one b at end before (Err why) more rs h e k rest = err-ok _ _ k
 
 rewrites-from : (turns : ℕ) (b : List ℕ) (at end before : ℕ) (rs : List Record) → Bytes b → end - at ≤ turns → recordsFrom turns b at end before ≡ Ok rs
     → encodeAll rs before ≡ window b at end
