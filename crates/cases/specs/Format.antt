@@ -2,6 +2,7 @@
 use Prim.Native.Nat.{ℕ, _+_, _-_}
 use mathlib.Core.Path.{_≡_}
 use mathlib.Core.List.{List, [], _∷_, _++_, map}
+use lib.Chars.{codes}
 use lib.ListN.{length, replicate}
 use Rattle.std.specs.declared.result.Result.{Result}
 use Rattle.std.specs.declared.result.Result.the-variants.{Ok, Err}
@@ -18,6 +19,7 @@ use Rattle.trace.specs.declared.bundle.Bundle.{Bundle}
 use Rattle.trace.specs.Whole.{traceIn}
 use Rattle.trace.specs.Bundle.{span, noTrace, bundleOf}
 use Rattle.input.specs.Inputs.{Plain, settingsOf}
+use Rattle.listing.specs.Listings.{listingText}
 
 -- an answer, a refusal by its number and place
 pub data Answer (A : Type 0) : Type 0 where
@@ -98,12 +100,22 @@ settingsCases =
     ∷ (0x02 ∷ 0xff ∷ 0x01 ∷ 0x01 ∷ 0x02 ∷ [], gives (record { cores = 2; slot = 255; service = 1; path = Direct; arbiter = RoundRobin }))
     ∷ []
 
--- **The worked cases of traces, bundles, numbers of cores and settings.**
+-- inputs, and what is printed for them
+abbrev pub listingCases : List (List ℕ × List ℕ)
+listingCases =
+    (0x02 ∷ 0x04 ∷ 0x04 ∷ 0x00 ∷ 0x00 ∷ 0x03 ∷ 0x00 ∷ 0x0b ∷ 0x0e ∷ 0x01 ∷ 0x00 ∷ 0x00 ∷ 0x00 ∷ 0x07 ∷ 0x01 ∷ 0x03 ∷ 0x00 ∷ 0x05 ∷ 0x02 ∷ 0x00 ∷ 0x10 ∷ 0x0f ∷ 0x00 ∷ 0x08 ∷ 0x02 ∷ 0x00 ∷ 0x00 ∷ 0x00 ∷ 0x05 ∷ 0x01 ∷ 0x0e ∷ 0x01 ∷ 0x00 ∷ 0x00 ∷ 0x00 ∷ 0x09 ∷ 0x01 ∷ [], codes "core,index,gap,kind,line,word\n0,0,0,S,1,7\n0,1,5,L,2,0\n1,0,8,S,2,5\n1,1,0,S,1,9\ntotal,0:2:11,1:2:16\n")
+    ∷ (0x01 ∷ 0x00 ∷ 0x00 ∷ 0x00 ∷ 0x00 ∷ 0x01 ∷ 0x00 ∷ 0x01 ∷ 0x10 ∷ [], codes "refused,11,3\n")
+    ∷ (0x02 ∷ 0x00 ∷ 0x00 ∷ 0x01 ∷ 0x02 ∷ 0x00 ∷ [], codes "core,index,gap,kind,line,word\ntotal,0:0:0,1:0:0\n")
+    ∷ ([], codes "refused,1,0\n")
+    ∷ []
+
+-- **The worked cases of traces, bundles, numbers of cores, settings and listings.**
 pub record Cases : Type 0 where
   pub of-traces : Agree traceIn traceCases
   pub of-bundles : Agree (λ c. bundleOf (c .0) (c .1)) bundleCases
   pub of-cores : Agree coresCheck coresCases
   pub of-settings : Agree settingsOf settingsCases
+  pub of-listings : map (λ c. listingText (c .0)) listingCases ≡ map (λ c. c .1) listingCases
 
 abbrev pub caseCount : ℕ
-caseCount = length traceCases + length bundleCases + length coresCases + length settingsCases
+caseCount = length traceCases + length bundleCases + length coresCases + length settingsCases + length listingCases

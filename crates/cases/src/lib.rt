@@ -12,7 +12,7 @@ pub fn worked_cases() -> usize
     ensures count { λ r. ⌜ r ≡ caseCount ⌝ }
 {
     cases_hold();
-    45
+    49
 }
 
 #[cfg(test)]

@@ -17,6 +17,10 @@ use Rattle.trace.specs.Bundle.{bundleOf}
 use Rattle.input.specs.declared.Settings.{Settings}
 use Rattle.input.specs.declared.Input.{Input}
 
+-- the longest input
+abbrev pub sizeLimit : ℕ
+sizeLimit = 65536
+
 -- a width of 0 stands for the default
 abbrev pub widthOr : ℕ → ℕ → ℕ
 widthOr given default = cond (eqb given 0) default given
@@ -40,10 +44,10 @@ abbrev pub plainInput : Result Input Refusal → Result (Plain × Bundle) Refusa
 plainInput (Ok i) = Ok (plain (i .settings), i .bundle)
 plainInput (Err f) = Err f
 
--- the settings of an input of 5 to 65,536 bytes
+-- the settings of an input, which has 5 bytes at least
 abbrev pub settingsOf : List ℕ → Result Plain Refusal
 settingsOf bytes =
-    cond (ltb (length bytes) 5 || ltb 65536 (length bytes)) (Err (refusal InputSize 0))
+    cond (ltb (length bytes) 5 || ltb sizeLimit (length bytes)) (Err (refusal InputSize 0))
     (andThen (coresCheck (getD bytes 0 0)) (λ n.
     andThen (pathCheck (getD bytes 3 0)) (λ p.
     andThen (arbiterCheck (getD bytes 4 0)) (λ a.

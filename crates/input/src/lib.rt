@@ -1,9 +1,10 @@
 // What the programs read from standard input: five settings, one byte each, and a bundle of traces.
 ghost use mathlib.Core.Path.{_≡_};
+ghost use Prim.Native.Nat.{_+_};
 ghost use lib.ListN.{drop};
 ghost use Rattle.std.specs.Vec.{made};
 ghost use Rattle.trace.specs.Bundle.{bundleOf, AllReadable};
-ghost use Rattle.input.specs.Inputs.{widthOr, settingsOf, inputOf, plainSettings, plainInput};
+ghost use Rattle.input.specs.Inputs.{sizeLimit, widthOr, settingsOf, inputOf, plainSettings, plainInput};
 use model::ArbiterChoice;
 use model::Cores;
 use model::Path;
@@ -27,6 +28,14 @@ pub struct Settings {
 pub struct Input {
     pub settings: Settings,
     pub bundle: Bundle,
+}
+
+// How many bytes of its input a program reads: one more than an input can have, so that a longer one is known by its
+// length.
+pub fn read_limit() -> u64
+    ensures { λ r. ⌜ r ≡ sizeLimit + 1 ⌝ }
+{
+    65_537
 }
 
 // A width as it is given, where 0 stands for the default.

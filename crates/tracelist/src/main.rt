@@ -1,4 +1,5 @@
 // Lists the program input that stands on standard input, or says why it is refused.
+use input::read_limit;
 use listing::listing;
 use std::env;
 use std::io;
@@ -19,16 +20,13 @@ gives one row: refused, the refusal's number and the place of the fault in the
 bundle. docs/REFUSALS.md says what the numbers mean.
 ";
 
-// One byte more than the largest input, so that a larger one is known by its length.
-const ENOUGH: u64 = 65_537;
-
 fn main(rt: LibcRuntime) -> io::Result<()> {
     if env::args(&rt)?.count() > 1 {
         return rt.stdout().write_all(USAGE.as_bytes());
     }
     let heap = rt.alloc();
     let mut input = Vec::new(heap);
-    rt.stdin().take(ENOUGH).read_to_end(&mut input)?;
+    rt.stdin().take(read_limit()).read_to_end(&mut input)?;
     let text = listing(heap, &input)?;
     rt.stdout().write_all(text.as_bytes())
 }
