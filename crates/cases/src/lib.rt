@@ -1,4 +1,4 @@
-// Worked cases: what the rules answer to small inputs, proved of the definitions; the tests run the same through the code.
+// Worked cases: what the rules answer to small inputs, proved of the definitions; the tests run many of them through the code.
 ghost use mathlib.Core.Path.{_≡_};
 ghost use Rattle.cases.specs.Format.{Cases, caseCount};
 

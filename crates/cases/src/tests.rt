@@ -1,4 +1,4 @@
-// The worked cases through the code, and what else the calls do on small inputs.
+// Many of the worked cases through the code, and what else the calls do on small inputs.
 use listing::listing;
 use model::Cores;
 use model::Kind;
