@@ -13,7 +13,6 @@ use Rattle.refusal.specs.declared.Refusal.{Refusal}
 use Rattle.trace.specs.declared.Record.{Record}
 use Rattle.trace.specs.Reader.{taken}
 use Rattle.trace.specs.Whole.{joined}
-use Rattle.listing.specs.declared.Row.{Row}
 use Rattle.listing.specs.Listings.{rowText, rowsText, recordsOf, forCores}
 
 -- one part more of what is left

@@ -16,7 +16,6 @@ use input::bundle_part;
 use input::check_input;
 use model::Cores;
 use model::KindDisplay;
-use refusal::Refusal;
 use refusal::RefusalDisplay;
 use std::alloc::AllocError;
 use std::alloc::Global;

@@ -21,7 +21,7 @@ pub enum Reason {
     KindRange,
     // There is no such line.
     LineRange,
-    // The core still has a request, or a report that was not collected.
+    // The core still has a request, or a report that was not collected; at the closing of a run, some core has.
     CoreBusy,
     // A line in state I cannot be replaced.
     ReplaceInvalid,

@@ -1,6 +1,7 @@
--- Answers that are never the same.
+-- Answers that are never the same, and what a good answer says of the tests before it.
 use Prim.Native.Nat.{ℕ}
-use mathlib.Core.Path.{_≡_}
+use mathlib.Core.Path.{_≡_, refl}
+use mathlib.Core.Bool.{Bool, true, false, cond}
 use native.Mathlib.Omega.{arith}
 use Rattle.std.specs.declared.option.Option.{Option}
 use Rattle.std.specs.declared.option.Option.the-variants.{Some, None}
@@ -18,3 +19,11 @@ none-some x h = let z : _≡_ {A = ℕ} 0 1 = cc in absurd (omega arith)
 
 pub some-none : {A E X : Type 0} (x : A) → _≡_ {A = Result (Option A) E} (Ok (Some x)) (Ok None) → X
 some-none x h = let z : _≡_ {A = ℕ} 0 1 = cc in absurd (omega arith)
+
+pub ok-same : {A E : Type 0} (x y : A) → _≡_ {A = Result A E} (Ok x) (Ok y) → x ≡ y
+ok-same x y h = cc
+
+-- a test that would refuse was not met
+pub test-passed : {A E : Type 0} (t : Bool) (e : E) (x : Result A E) (y : A) → cond t (Err e) x ≡ Ok y → (t ≡ false) × (x ≡ Ok y)
+test-passed true e x y h = err-ok e y h
+test-passed false e x y h = (refl, h)

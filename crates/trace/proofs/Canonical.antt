@@ -1,5 +1,5 @@
 -- The bytes of an accepted record are those that the writer writes of it.
-use Prim.Native.Nat.{ℕ, zero, suc, _+_, _*_, _/_, _%_, _<_, _≤_}
+use Prim.Native.Nat.{ℕ, zero, suc, _+_, _*_, _/_, _<_, _≤_}
 use mathlib.Core.Path.{_≡_, refl, sym, ap, _∙_}
 use mathlib.Core.Bool.{Bool, true, false, cond, _&&_, _||_, not}
 use mathlib.Core.List.{List, [], _∷_, _++_, append-assoc}
@@ -9,14 +9,14 @@ use native.Mathlib.Nat.{div-one}
 use lib.Dec.{eqb}
 use lib.ListN.{length, take, drop, getD, length-drop}
 use lib.Seq.{take-add}
-use Rattle.std.specs.declared.result.Result.the-variants.{Ok, Err}
+use Rattle.std.specs.declared.result.Result.the-variants.{Ok}
 use Rattle.std.proofs.shelf.Lists.{drop-more, take-more, getD-drop}
 use Rattle.std.proofs.shelf.Bits.{shr-shr, div-mul-add, mod-mul-add}
 use Rattle.std.proofs.shelf.Ways.{tells}
 use Rattle.model.specs.Numbers.{kindNumber, kindOf}
 use Rattle.trace.specs.declared.Record.{Record}
-use Rattle.trace.specs.Reading.{decode, bit, size, lineAt, wordAt, kindAt, mapOf, has, bigEndian, gapIn, lineIn, wordIn, kindIn, recordIn, strangeKind}
-use Rattle.trace.specs.Writing.{bytesOf, part, mapBy, laidOut, differs, encode}
+use Rattle.trace.specs.Reading.{decode, bit, size, lineAt, wordAt, kindAt, mapOf, has, bigEndian, gapIn, lineIn, wordIn, kindIn}
+use Rattle.trace.specs.Writing.{bytesOf, part, mapBy, differs, encode}
 use Rattle.trace.proofs.Accepted.{accepted}
 use Rattle.trace.proofs.Windows.{Bytes}
 

@@ -12,7 +12,7 @@ use Rattle.refusal.specs.declared.Reason.{Reason}
 use Rattle.refusal.specs.declared.Refusal.{Refusal}
 use Rattle.trace.specs.declared.Record.{Record}
 use Rattle.trace.specs.declared.reader.TraceReader.{TraceReader}
-use Rattle.trace.specs.Reader.{readHere, found, answer, passed, after, taken, remaining}
+use Rattle.trace.specs.Reader.{readHere, found, answer, passed, after, taken}
 use Rattle.trace.specs.Whole.{joined, countOf}
 use Rattle.trace.proofs.Steps.{has-read}
 use Rattle.trace.proofs.Apart.{err-ok, none-some}
@@ -21,10 +21,6 @@ use Rattle.trace.proofs.Apart.{err-ok, none-some}
 abbrev pub plus : ℕ → Result ℕ Refusal → Result ℕ Refusal
 plus n (Ok m) = Ok (n + m)
 plus n (Err f) = Err f
-
-pub plus-none : (x : Result ℕ Refusal) → x ≡ plus 0 x
-plus-none (Ok m) = ap Ok (omega arith)
-plus-none (Err f) = refl
 
 one-more : (n : ℕ) (r : Record) (x : Result (List Record) Refusal) → plus n (countOf (joined r x)) ≡ plus (n + 1) (countOf x)
 one-more n r (Ok rs) = ap Ok (omega arith)

@@ -9,7 +9,7 @@ use lib.ListN.{length, length-append}
 use Rattle.model.specs.Numbers.{kindNumber}
 use Rattle.trace.specs.declared.Record.{Record}
 use Rattle.trace.specs.Reading.{size, mapOf, has, bigEndian, gapIn, lineIn, wordIn, kindIn}
-use Rattle.trace.specs.Writing.{bytesOf, part, mapBy, laidOut, differs, encode}
+use Rattle.trace.specs.Writing.{bytesOf, part, laidOut, differs, encode}
 
 -- what is read of them, whatever follows
 abbrev pub Seen : Type 0

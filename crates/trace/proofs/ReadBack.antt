@@ -1,21 +1,23 @@
 -- A record that is written is read back.
-use Prim.Native.Nat.{ℕ, _+_, _*_, _/_, _%_, _<_, _≤_}
-use mathlib.Core.Path.{_≡_, refl, sym, ap, _∙_}
-use mathlib.Core.Bool.{Bool, true, false, cond, _&&_, _||_, not}
+use Prim.Native.Nat.{ℕ, _+_}
+use mathlib.Core.Path.{_≡_, refl, ap, _∙_}
+use mathlib.Core.Bool.{Bool, false, cond, _&&_, _||_, not}
 use mathlib.Core.List.{List, _++_}
 use native.Mathlib.Omega.{arith}
 use lib.Dec.{eqb, ltb, leb}
 use lib.ListN.{length, length-append}
+use Rattle.std.specs.declared.result.Result.{Result}
 use Rattle.std.specs.declared.result.Result.the-variants.{Ok, Err}
+use Rattle.refusal.specs.declared.Reason.{Reason}
+use Rattle.refusal.specs.declared.Reason.the-variants.{UnknownMapBits, CutShort, KindByte, RedundantField}
 use Rattle.std.proofs.shelf.Tests.{le-ltb}
 use Rattle.std.proofs.shelf.Ways.{tells}
 use Rattle.model.specs.declared.Kind.{Kind}
 use Rattle.model.specs.declared.Kind.the-variants.{Load, Store, Replace}
 use Rattle.model.specs.Numbers.{kindNumber, kindOf}
 use Rattle.trace.specs.declared.Record.{Record}
-use Rattle.trace.specs.Reading.{decode, size, mapOf, has, gapIn, lineIn, wordIn, kindIn, recordIn, strangeKind, redundant}
-use Rattle.trace.specs.Writing.{encode, laidOut, differs, Writable}
-use Rattle.trace.proofs.Accepted.{tested}
+use Rattle.trace.specs.Reading.{decode, size, mapOf, gapIn, lineIn, wordIn, kindIn, recordIn, strangeKind, redundant}
+use Rattle.trace.specs.Writing.{encode, differs, Writable}
 use Rattle.trace.proofs.Laid.{laid}
 
 -- a field is what it was, present or absent
@@ -35,6 +37,11 @@ kind-fine Replace = refl
 
 lean-fine : (g l w k : Bool) → (not w && not k) ≡ false → ((not g && g) || (not l && l) || (not w && (w || not k))) ≡ false
 lean-fine g l w k h = grind arith
+
+-- the tests of `decode`, over their answers
+abbrev tested : Bool → Bool → Bool → Bool → Record → Result Record Reason
+tested m t k r x =
+    cond m (Err UnknownMapBits) (cond t (Err CutShort) (cond k (Err KindByte) (cond r (Err RedundantField) (Ok x))))
 
 passes : (m t k r : Bool) (x : Record) → m ≡ false → t ≡ false → k ≡ false → r ≡ false → tested m t k r x ≡ Ok x
 passes m t k r x p q s u = rw (p, q, s, u)

@@ -1,7 +1,6 @@
 -- The two round trips of whole traces.
 use Prim.Native.Nat.{ℕ, zero, suc, _+_, _-_, _<_, _≤_}
 use mathlib.Core.Path.{_≡_, refl, sym, ap, subst, _∙_}
-use mathlib.Core.Bool.{Bool, true, false, cond}
 use mathlib.Core.List.{List, [], _∷_, _++_, append-assoc, append-nil}
 use lib.Dec.{ltb}
 use native.Mathlib.Omega.{arith}
@@ -16,7 +15,7 @@ use Rattle.refusal.specs.declared.Refusal.{Refusal}
 use Rattle.refusal.specs.Refusals.{andThen}
 use Rattle.trace.specs.declared.Record.{Record}
 use Rattle.trace.specs.declared.writer.Draft.{Draft}
-use Rattle.trace.specs.Reading.{decode, size, mapOf}
+use Rattle.trace.specs.Reading.{size, mapOf}
 use Rattle.trace.specs.Writing.{encode, put, Writable, strayWord, unlessStray, recordFrom, placed, filled}
 use Rattle.trace.specs.Whole.{window, readAt, joined, followed, recordsFrom, recordsIn, encodeAll, Written, recordsFor, ReadsBack, Rewritten, SameBytes}
 use Rattle.std.proofs.shelf.Tests.{ltb-false}
@@ -25,10 +24,10 @@ use Rattle.model.specs.Numbers.{kindCheck}
 use Rattle.trace.proofs.Laid.{encode-parts}
 use Rattle.trace.proofs.ReadBack.{reads-back}
 use Rattle.trace.proofs.Canonical.{canonical}
-use Rattle.trace.proofs.Windows.{Bytes, window-drop, window-between, window-all, window-bytes, window-length}
+use Rattle.trace.proofs.Windows.{Bytes, window-drop, window-between, window-all, window-bytes, window-over}
 use Rattle.trace.proofs.Buffers.{put-none, put-then}
 use Rattle.trace.proofs.Steps.{has-read, none-read, read-none, read-some, rest-of}
-use Rattle.trace.proofs.Apart.{err-ok}
+use Rattle.trace.proofs.Apart.{err-ok, ok-same, test-passed}
 
 moved-on : (front r xs rest : List ℕ) → front ++ ((r ++ xs) ++ rest) ≡ (front ++ r) ++ (xs ++ rest)
 moved-on front r xs rest = simp append-assoc
@@ -90,22 +89,19 @@ pub record Wrote (out : List ℕ) (at before : ℕ) (d : Draft) (n : ℕ) : Type
   pub place : n ≡ at + length (encode rec before)
   pub bytes : filled (recordFrom d) out at before ≡ put out at (encode rec before)
 
--- a test that passed
-passed : {A : Type 0} (t : Bool) (f : Refusal) (x y : A) → cond t (Err f) (Ok x) ≡ Ok y → (t ≡ false) × (y ≡ x)
-passed true f x y h = err-ok _ _ h
-passed false f x y h = (refl, cc)
-
 checked : (x : Result Kind Refusal) (d : Draft) (r : Record) → andThen x (λ k. unlessStray (record { gap = d .gap; line = d .line; word = d .word; kind = k })) ≡ Ok r
     → Writable r × (r .line ≡ d .line)
 checked (Ok k) d r h =
-    let p = passed (strayWord (record { gap = d .gap; line = d .line; word = d .word; kind = k })) _ _ r h in
-    (subst Writable (sym (p .1)) (p .0), ap (λ x. x .line) (p .1))
+    let x : Record = record { gap = d .gap; line = d .line; word = d .word; kind = k } in
+    let p = test-passed (strayWord x) _ (Ok x) r h in
+    let e : x ≡ r = ok-same x r (p .1) in
+    (subst Writable e (p .0), ap (λ y. y .line) (sym e))
 checked (Err f) d r h = err-ok _ _ h
 
 wrote-by : (out : List ℕ) (at before : ℕ) (d : Draft) (n : ℕ) (x : Result Record Refusal) → recordFrom d ≡ x → placed x out at before ≡ Ok n → Wrote out at before d n
 wrote-by out at before d n (Ok r) e h =
     let size : ℕ = length (encode r before) in
-    let p = passed (ltb (length out - at) size) _ (at + size) n h in
+    let p = test-passed (ltb (length out - at) size) _ (Ok (at + size)) n h in
     let c = checked (kindCheck (d .kind)) d r e in
     let room : size ≤ length out - at = ltb-false (length out - at) size (p .0) in
     record {
@@ -114,7 +110,7 @@ wrote-by out at before d n (Ok r) e h =
       fine = c .0;
       line = c .1;
       room = omega (arith, encode-parts r before);
-      place = p .1;
+      place = sym (ok-same (at + size) n (p .1));
       bytes = ap (λ y. filled y out at before) e ∙ rw (p .0);
     }
 wrote-by out at before d n (Err f) e h = err-ok _ _ h
@@ -160,9 +156,6 @@ joined-ok : (r : Record) (y : Result (List Record) Refusal) (rs : List Record) �
 joined-ok r (Ok qs) rs h = (qs, refl, cc)
 joined-ok r (Err f) rs h = err-ok _ _ h
 
-nothing-left : (b : List ℕ) (at end : ℕ) → end ≤ at → [] ≡ window b at end
-nothing-left b at end h = let z : end - at ≡ 0 = omega arith in rw z
-
 -- one record of an accepted trace, where those after it are written again as they stand
 rewrites-one : (b : List ℕ) (at end before : ℕ) (x : Result (Option (Record × ℕ)) Reason) (more : ℕ → ℕ → Result (List Record) Refusal) (rs : List Record)
     → Bytes b → readAt b at end before ≡ x → followed at x more ≡ Ok rs
@@ -170,7 +163,7 @@ rewrites-one : (b : List ℕ) (at end before : ℕ) (x : Result (Option (Record 
     → encodeAll rs before ≡ window b at end
 rewrites-one b at end before (Ok None) more rs h e k rest =
     let q : [] ≡ rs = cc in
-    ap (λ l. encodeAll l before) (sym q) ∙ nothing-left b at end (none-read b at end before e)
+    ap (λ l. encodeAll l before) (sym q) ∙ window-over b at end (none-read b at end before e)
 rewrites-one b at end before (Ok (Some (r, next))) more rs h e k rest =
     let read = has-read b at end before r next e in
     let w : List ℕ = window b at end in
@@ -185,7 +178,7 @@ rewrites-one b at end before (Err why) more rs h e k rest = err-ok _ _ k
 rewrites-from : (turns : ℕ) (b : List ℕ) (at end before : ℕ) (rs : List Record) → Bytes b → end - at ≤ turns → recordsFrom turns b at end before ≡ Ok rs
     → encodeAll rs before ≡ window b at end
 unfolding recordsFrom
-rewrites-from zero b at end before rs h t k = let q : [] ≡ rs = cc in ap (λ l. encodeAll l before) (sym q) ∙ nothing-left b at end (omega arith)
+rewrites-from zero b at end before rs h t k = let q : [] ≡ rs = cc in ap (λ l. encodeAll l before) (sym q) ∙ window-over b at end (omega arith)
 rewrites-from (suc turns) b at end before rs h t k =
     rewrites-one b at end before (readAt b at end before) _ rs h refl k
     (λ next line qs f e. rewrites-from turns b next end line qs h (omega arith) e)

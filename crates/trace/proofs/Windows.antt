@@ -2,7 +2,7 @@
 use Prim.Native.Nat.{ℕ, _+_, _-_, _≤_, _<_, min}
 use mathlib.Core.Path.{_≡_, refl, sym, ap, _∙_}
 use mathlib.Core.List.{List, [], _++_}
-use mathlib.Core.Logic.{_⊎_, inl, inr}
+use mathlib.Core.Logic.{inl, inr}
 use native.Mathlib.Omega.{arith}
 use lib.ListN.{length, take, drop, getD, length-drop, length-take}
 use Rattle.std.proofs.shelf.Lists.{take-all, take-at, drop-at, drop-drop, drop-take, getD-take, getD-drop, getD-past}
@@ -21,8 +21,9 @@ window-min b at end m e =
 abbrev pub Bytes : List ℕ → Type 0
 Bytes b = (i : ℕ) → getD b i 0 < 256
 
-pub window-none : (b : List ℕ) (at end m : ℕ) → m ≡ min end (length b) → m ≤ at → [] ≡ window b at end
-window-none b at end m e h = let z : m - at ≡ 0 = omega arith in (rw z) ∙ window-min b at end m e
+-- nothing stands from the end on
+pub window-over : (b : List ℕ) (at end : ℕ) → end ≤ at → [] ≡ window b at end
+window-over b at end h = let z : end - at ≡ 0 = omega arith in rw z
 
 pub window-length : (b : List ℕ) (at end : ℕ) → length (window b at end) ≤ end - at
 window-length b at end = simp length-take (omega arith)

@@ -8,7 +8,7 @@ ghost use Rattle.std.specs.declared.result.Result.the-variants.{Ok};
 ghost use Rattle.std.specs.Vec.{made};
 ghost use Rattle.model.specs.Numbers.{kindNumber};
 ghost use Rattle.trace.specs.Whole.{recordsIn, Holds, ReadsBack};
-ghost use Rattle.trace.specs.Writing.{differs, bytesOf, mapBy, encode, put, Writable, recordFrom, placed, filled};
+ghost use Rattle.trace.specs.Writing.{differs, part, mapBy, encode, put, Writable, recordFrom, placed, filled};
 use crate::Record;
 use crate::decode::size_of;
 use model::Kind;
@@ -63,18 +63,6 @@ fn encoded_size(rec: Record, before: u8) -> usize
     size_of(map_for(rec, before))
 }
 
-fn gap_bytes(gap: u16) -> [u8; 2]
-    ensures { λ r. ⌜ r ≡ bytesOf 2 gap ⌝ }
-{
-    gap.to_be_bytes()
-}
-
-fn word_bytes(word: u32) -> [u8; 4]
-    ensures { λ r. ⌜ r ≡ bytesOf 4 word ⌝ }
-{
-    word.to_be_bytes()
-}
-
 // Puts the bytes of a field at a place, if it is present, and answers the place after them.
 fn put_field(out: &mut [u8], at: usize, present: bool, bytes: &[u8]) -> usize
     requires { ⌜ at + length (cond present (now bytes) []) ≤ length (now out) ⌝ }
@@ -89,6 +77,31 @@ fn put_field(out: &mut [u8], at: usize, present: bool, bytes: &[u8]) -> usize
     end
 }
 
+fn put_gap(out: &mut [u8], at: usize, gap: u16) -> usize
+    requires { ⌜ at + length (part (differs gap 0) 2 gap) ≤ length (now out) ⌝ }
+    ensures place { λ r. ⌜ r ≡ at + length (part (differs gap 0) 2 gap) ⌝ }
+    ensures bytes { λ _. ⌜ now (out .exit) ≡ put (now (out .entry)) at (part (differs gap 0) 2 gap) ⌝ }
+{
+    put_field(out, at, gap != 0, &gap.to_be_bytes())
+}
+
+fn put_word(out: &mut [u8], at: usize, word: u32) -> usize
+    requires { ⌜ at + length (part (differs word 0) 4 word) ≤ length (now out) ⌝ }
+    ensures place { λ r. ⌜ r ≡ at + length (part (differs word 0) 4 word) ⌝ }
+    ensures bytes { λ _. ⌜ now (out .exit) ≡ put (now (out .entry)) at (part (differs word 0) 4 word) ⌝ }
+{
+    put_field(out, at, word != 0, &word.to_be_bytes())
+}
+
+fn put_kind(out: &mut [u8], at: usize, kind: Kind) -> usize
+    requires { ⌜ at + length (part (differs (kindNumber kind) 0) 1 (kindNumber kind)) ≤ length (now out) ⌝ }
+    ensures place { λ r. ⌜ r ≡ at + length (part (differs (kindNumber kind) 0) 1 (kindNumber kind)) ⌝ }
+    ensures bytes { λ _. ⌜ now (out .exit) ≡ put (now (out .entry)) at (part (differs (kindNumber kind) 0) 1 (kindNumber kind)) ⌝ }
+{
+    let number = kind.number();
+    put_field(out, at, number != 0, &[number])
+}
+
 // Puts a record at a place that has room for it.
 fn put_record(out: &mut [u8], at: usize, before: u8, rec: Record) -> usize
     requires { ⌜ at + length (encode rec before) ≤ length (now out) ⌝ }
@@ -97,12 +110,11 @@ fn put_record(out: &mut [u8], at: usize, before: u8, rec: Record) -> usize
     ensures holds { λ r. ⌜ (Writable rec → recordsIn (now (out .exit)) at r before ≡ Ok (rec ∷ [])) ⌝ }
     ensures trace { λ _. ⌜ ReadsBack ⌝ }
 {
-    let kind = rec.kind.number();
     let a = put_field(out, at, true, &[map_for(rec, before)]);
-    let b = put_field(out, a, rec.gap != 0, &gap_bytes(rec.gap));
+    let b = put_gap(out, a, rec.gap);
     let c = put_field(out, b, rec.line != before, &[rec.line]);
-    let d = put_field(out, c, rec.word != 0, &word_bytes(rec.word));
-    put_field(out, d, kind != 0, &[kind])
+    let d = put_word(out, c, rec.word);
+    put_kind(out, d, rec.kind)
 }
 
 // Writes a record at a place of the buffer, after one of the line `before`, and answers the next free place.

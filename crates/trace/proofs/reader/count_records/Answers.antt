@@ -1,13 +1,13 @@
 use borrow.Author.Needs.{needs}
 use mathlib.Core.Path.{_≡_, sym, ap, _∙_}
-use Prim.Native.Nat.{_<_, _≤_, _+_}
+use Prim.Native.Nat.{_<_, _≤_}
 use native.Mathlib.Omega.{arith}
-use Rattle.std.specs.declared.option.Option.the-variants.{Some, None}
+use Rattle.std.specs.declared.option.Option.the-variants.{Some}
 use Rattle.std.specs.declared.result.Result.the-variants.{Ok, Err}
 use Rattle.std.proofs.shelf.Results.{err-from-errBy}
 use Rattle.trace.proofs.Windows.{Bytes}
 use Rattle.trace.proofs.Traces.{rewrites-in, accepted-rewrites}
-use Rattle.trace.proofs.Counts.{plus-none, moves, count-some, count-none, count-err}
+use Rattle.trace.proofs.Counts.{moves, count-some, count-none, count-err}
 use Rattle.trace.proofs.reader.count_records.Needs as need
 
 pub returns-in-Break-next : need.returns-in-Break-next

@@ -1,4 +1,4 @@
-use Prim.Native.Nat.{_+_, _-_, _≤_}
+use Prim.Native.Nat.{_-_, _≤_}
 use mathlib.Core.Path.{_≡_}
 use Rattle.trace.specs.Whole.{countOf, recordsIn}
 use Rattle.trace.specs.Reader.{remaining}

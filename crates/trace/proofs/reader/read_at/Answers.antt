@@ -1,12 +1,11 @@
 use mathlib.Core.Path.{_≡_, refl, sym, ap, subst, _∙_}
-use Prim.Native.Nat.{ℕ, _+_, _-_, _≤_}
+use Prim.Native.Nat.{ℕ, _-_, _≤_}
 use mathlib.Core.List.{List}
 use native.Mathlib.Omega.{arith}
 use lib.ListN.{length}
-use Rattle.std.specs.declared.option.Option.the-variants.{Some, None}
+use Rattle.std.specs.declared.option.Option.the-variants.{None}
 use Rattle.std.specs.declared.result.Result.the-variants.{Ok, Err}
-use Rattle.trace.specs.Reading.{decode, size, mapOf}
-use Rattle.trace.specs.Whole.{window, readAt}
+use Rattle.trace.specs.Reading.{size, mapOf}
 use Rattle.trace.proofs.Accepted.{accepted}
 use Rattle.trace.proofs.Windows.{window-length}
 use Rattle.trace.proofs.Steps.{read-none, read-some, rest-of}
