@@ -110,12 +110,12 @@ listingCases =
     ∷ []
 
 -- **The worked cases of traces, bundles, numbers of cores, settings and listings.**
-pub record Cases : Type 0 where
+pub record FormatCases : Type 0 where
   pub of-traces : Agree traceIn traceCases
   pub of-bundles : Agree (λ c. bundleOf (c .0) (c .1)) bundleCases
   pub of-cores : Agree coresCheck coresCases
   pub of-settings : Agree settingsOf settingsCases
   pub of-listings : map (λ c. listingText (c .0)) listingCases ≡ map (λ c. c .1) listingCases
 
-abbrev pub caseCount : ℕ
-caseCount = length traceCases + length bundleCases + length coresCases + length settingsCases + length listingCases
+abbrev pub formatCount : ℕ
+formatCount = length traceCases + length bundleCases + length coresCases + length settingsCases + length listingCases

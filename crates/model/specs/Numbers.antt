@@ -4,7 +4,7 @@ use mathlib.Core.Bool.{cond, _||_}
 use lib.Dec.{eqb, ltb}
 use Rattle.std.specs.declared.result.Result.{Result}
 use Rattle.std.specs.declared.result.Result.the-variants.{Ok, Err}
-use Rattle.refusal.specs.declared.Reason.the-variants.{CoreCount, SettingRange, KindRange}
+use Rattle.refusal.specs.declared.Reason.the-variants.{CoreCount, LineCount, SettingRange, KindRange}
 use Rattle.refusal.specs.declared.Refusal.{Refusal}
 use Rattle.refusal.specs.Refusals.{refusal}
 use Rattle.model.specs.declared.Kind.{Kind}
@@ -14,6 +14,7 @@ use Rattle.model.specs.declared.Path.the-variants.{ThroughMemory, Direct}
 use Rattle.model.specs.declared.ArbiterChoice.{ArbiterChoice}
 use Rattle.model.specs.declared.ArbiterChoice.the-variants.{WorkConserving, FixedSlots, RoundRobin}
 use Rattle.model.specs.declared.cores.Cores.{Cores}
+use Rattle.model.specs.declared.lines.Lines.{Lines}
 
 abbrev pub kindNumber : Kind → ℕ
 kindNumber Load = 0
@@ -54,6 +55,15 @@ abbrev pub coresCheck : ℕ → Result ℕ Refusal
 coresCheck n = cond (ltb n 1 || ltb 8 n) (Err (refusal CoreCount 0)) (Ok n)
 
 -- a checked number of cores as a number
-abbrev pub counted : Result Cores Refusal → Result ℕ Refusal
-counted (Ok c) = Ok (c .count)
-counted (Err f) = Err f
+abbrev pub coresCounted : Result Cores Refusal → Result ℕ Refusal
+coresCounted (Ok c) = Ok (c .count)
+coresCounted (Err f) = Err f
+
+-- a number of lines, 1 to 64
+abbrev pub linesCheck : ℕ → Result ℕ Refusal
+linesCheck n = cond (ltb n 1 || ltb 64 n) (Err (refusal LineCount 0)) (Ok n)
+
+-- a checked number of lines as a number
+abbrev pub linesCounted : Result Lines Refusal → Result ℕ Refusal
+linesCounted (Ok l) = Ok (l .count)
+linesCounted (Err f) = Err f

@@ -1,15 +1,20 @@
-// The words of the model that stand for numbers or letters: kinds of access, paths, arbiters, and the number of cores.
+// The words of the model that stand for numbers or letters: kinds of access, paths, arbiters, and the numbers of cores and
+// lines.
 ghost use mathlib.Core.Path.{_≡_};
 ghost use mathlib.Core.List.{[], _∷_};
 ghost use Rattle.std.specs.declared.option.Option.the-variants.{Some};
 ghost use Rattle.std.specs.declared.result.Result.the-variants.{Ok};
-ghost use Rattle.model.specs.Numbers.{kindNumber, kindLetter, kindCheck, pathNumber, pathCheck, arbiterNumber, arbiterCheck, coresCheck, counted};
+ghost use Rattle.model.specs.Numbers.{kindNumber, kindLetter, kindCheck, pathNumber, pathCheck, arbiterNumber, arbiterCheck, coresCheck, coresCounted, linesCheck, linesCounted};
 
 mod cores;
+mod lines;
 
 pub use cores::Cores;
 pub use cores::CoresDebug;
 pub use cores::CoresPartialEq;
+pub use lines::Lines;
+pub use lines::LinesDebug;
+pub use lines::LinesPartialEq;
 use refusal::Reason;
 use refusal::Refusal;
 use std::fmt;
@@ -124,12 +129,26 @@ impl ArbiterChoice {
 impl Cores {
     // The number is wide so that any count can be asked about.
     pub fn check(number: u32) -> Result<Cores, Refusal>
-        ensures { λ r. ⌜ counted r ≡ coresCheck number ⌝ }
+        ensures { λ r. ⌜ coresCounted r ≡ coresCheck number ⌝ }
     {
         if number < 1 || number > 8 {
             return Err(Reason::CoreCount.at(0));
         }
         Ok(Cores {
+            count: number as u8,
+        })
+    }
+}
+
+impl Lines {
+    // The number is wide so that any count can be asked about.
+    pub fn check(number: u32) -> Result<Lines, Refusal>
+        ensures { λ r. ⌜ linesCounted r ≡ linesCheck number ⌝ }
+    {
+        if number < 1 || number > 64 {
+            return Err(Reason::LineCount.at(0));
+        }
+        Ok(Lines {
             count: number as u8,
         })
     }

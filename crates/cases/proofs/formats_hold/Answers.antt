@@ -3,7 +3,7 @@ use Rattle.std.specs.Written.{digits}
 use Rattle.trace.specs.Reading.{decode}
 use Rattle.trace.specs.Whole.{readAt, recordsFrom}
 use Rattle.trace.specs.Bundle.{spanAt, spansFrom}
-use Rattle.cases.proofs.cases_hold.Needs as need
+use Rattle.cases.proofs.formats_hold.Needs as need
 
 pub returns : need.returns
 unfolding decode readAt recordsFrom spanAt spansFrom digits

@@ -1,0 +1,5 @@
+pub mod Granting
+pub mod Rounds
+pub mod Shipped
+pub mod Turns
+pub mod Waiting

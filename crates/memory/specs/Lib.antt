@@ -1,0 +1,4 @@
+pub mod Checks
+pub mod Packing
+pub mod Unpacked
+pub mod Words
