@@ -1,6 +1,6 @@
 pub mod Laws
 pub mod Masks
-pub mod Rules
+pub mod Orders
 pub mod Same
 pub mod Scans
 pub mod Waits

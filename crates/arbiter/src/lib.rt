@@ -7,6 +7,7 @@ ghost use Rattle.arbiter.specs.Granting.{BoundedWaiting};
 mod fixed_slots;
 mod ready;
 mod round_robin;
+mod rules;
 mod turn;
 mod waiting;
 mod work_conserving;

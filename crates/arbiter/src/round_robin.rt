@@ -2,29 +2,23 @@ ghost use mathlib.Core.Path.{_≡_};
 ghost use Rattle.arbiter.specs.Shipped.{roundRobinPicks, roundRobinMoves, RoundRobinRule};
 ghost use Rattle.arbiter.specs.Turns.{turnsTo};
 use crate::Arbiter;
+use crate::rules::rules_hold;
 use crate::turn::Turn;
-use crate::turn::TurnDebug;
-use crate::turn::TurnPartialEq;
 use model::Cores;
 
 // Round robin: the first ready core after the last granted one, starting with core 0. Where none is ready the last stays.
 // The wait is N.
-#[derive(Clone, Copy, PartialEq, Eq, Debug)]
+#[derive(Clone, Copy)]
 pub struct RoundRobin {
     turn: Turn,
 }
-
-// Starting with core 0 it answers as its rule says.
-fn rule_holds()
-    ensures { λ _. ⌜ ((a : RoundRobin) → a .turn .core ≡ 0 → RoundRobinRule a) ⌝ }
-{}
 
 impl RoundRobin {
     pub fn new(cores: Cores) -> RoundRobin
         ensures made { λ r. ⌜ (r .turn .cores ≡ cores) × (r .turn .core ≡ 0) ⌝ }
         ensures rule { λ r. ⌜ RoundRobinRule r ⌝ }
     {
-        rule_holds();
+        rules_hold();
         RoundRobin {
             turn: Turn::new(cores),
         }

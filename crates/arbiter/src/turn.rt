@@ -4,12 +4,10 @@ ghost use Prim.Native.Nat.{_<_};
 mod passing;
 
 use model::Cores;
-use model::CoresDebug;
-use model::CoresPartialEq;
 
 // The turn is the core that comes first at the next grant: the slot's own core, or in round robin the core after the last
 // granted one. A slot number is kept as its core, so it can rise forever.
-#[derive(Clone, Copy, PartialEq, Eq, Debug)]
+#[derive(Clone, Copy)]
 pub struct Turn {
     cores: Cores,
     core: u8,

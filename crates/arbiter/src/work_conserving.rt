@@ -2,29 +2,23 @@ ghost use mathlib.Core.Path.{_≡_};
 ghost use Rattle.arbiter.specs.Shipped.{workConservingPicks, workConservingMoves, WorkConservingRule};
 ghost use Rattle.arbiter.specs.Turns.{turnsTo};
 use crate::Arbiter;
+use crate::rules::rules_hold;
 use crate::turn::Turn;
-use crate::turn::TurnDebug;
-use crate::turn::TurnPartialEq;
 use model::Cores;
 
 // Work-conserving slots: slot s, from 0, belongs to core s mod N, and if that core is not ready, the next ready core in
 // rising order is granted, core 0 following N − 1. Every grant is a slot. The wait is N.
-#[derive(Clone, Copy, PartialEq, Eq, Debug)]
+#[derive(Clone, Copy)]
 pub struct WorkConserving {
     turn: Turn,
 }
-
-// From slot 0 on it answers as its rule says.
-fn rule_holds()
-    ensures { λ _. ⌜ ((a : WorkConserving) → a .turn .core ≡ 0 → WorkConservingRule a) ⌝ }
-{}
 
 impl WorkConserving {
     pub fn new(cores: Cores) -> WorkConserving
         ensures made { λ r. ⌜ (r .turn .cores ≡ cores) × (r .turn .core ≡ 0) ⌝ }
         ensures rule { λ r. ⌜ WorkConservingRule r ⌝ }
     {
-        rule_holds();
+        rules_hold();
         WorkConserving {
             turn: Turn::new(cores),
         }

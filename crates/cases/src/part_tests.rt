@@ -171,7 +171,8 @@ fn memories_keep_words() -> Result<(), Fail> {
     let mut words = [0u32; 4];
     let mut flat = Flat::new(&mut words, FlatLines::check()?);
     kept(&mut flat, 4)?;
-    check_eq(*flat.into_words(), [0, 9, 0, 5])?;
+    let lent: &[u32] = flat.into_words();
+    check_eq(lent, &[0, 9, 0, 5])?;
     check_eq(words, [0, 9, 0, 5])?;
     kept(&mut Packed::new(Lines::check(4)?), 4)?;
     kept(&mut Packed::new(Lines::check(64)?), 64)?;

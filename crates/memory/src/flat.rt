@@ -1,6 +1,5 @@
 // Flat memory: the caller's words.
 ghost use Prim.Native.Nat.{_≤_};
-ghost use mathlib.Core.Path.{_≡_};
 ghost use denote.Ref.{now};
 ghost use lib.ListN.{length};
 
@@ -14,8 +13,7 @@ pub struct FlatLines<const L: usize> {
 
 // The caller's words, lent, one for each line.
 #[derive(Drop)]
-pub struct Flat<'a, const L: usize> {
-    words: &'a mut [u32; L],
-    ghost within: { (1 ≤ L) × (L ≤ 64) },
-    ghost whole: { length (now words) ≡ L },
+pub struct Flat<'a> {
+    words: &'a mut [u32],
+    ghost within: { (1 ≤ length (now words)) × (length (now words) ≤ 64) },
 }

@@ -1,9 +1,8 @@
 ghost use Prim.Native.Nat.{ℕ, _≤_};
 ghost use mathlib.Core.Path.{_≡_};
-ghost use denote.Ref.{name, now};
-ghost use lib.ListN.{length};
+ghost use denote.Ref.{now};
 ghost use Rattle.model.specs.Numbers.{linesCheck};
-ghost use Rattle.memory.specs.Checks.{flatCounted, flat-bounds};
+ghost use Rattle.memory.specs.Checks.{flatCounted};
 ghost use Rattle.memory.specs.Words.{wordAt, withWord};
 use super::Flat;
 use super::FlatLines;
@@ -23,57 +22,54 @@ impl<const L: usize> FlatLines<L> {
     }
 }
 
-// The word at a place; 0 past the end.
-fn word_at(words: &[u32], place: usize) -> u32
-    ensures { λ r. ⌜ r ≡ wordAt (now (words .entry)) place ⌝ }
-{
-    if place < words.len() { words[place] } else { 0 }
-}
-
-// Words seen as a slice: the prover learns the length of an array from that alone.
-fn seen(words: &[u32]) {}
-
-impl<'a, const L: usize> Flat<'a, L> {
+impl<'a> Flat<'a> {
     // A memory of these words as they stand.
-    pub fn new(words: &'a mut [u32; L], checked: FlatLines<L>) -> Flat<'a, L>
-        ensures words { λ r. ⌜ now (r .words) ≡ now (words .entry) ⌝ }
-        ensures lent { λ r. ⌜ name (r .words) ≡ name (words .entry) ⌝ }
+    pub fn new<const L: usize>(words: &'a mut [u32; L], _checked: FlatLines<L>) -> Flat<'a>
+        ensures { λ r. ⌜ now (r .words) ≡ now (words .entry) ⌝ }
     {
-        seen(words);
         Flat { words }
     }
 
-    // The caller's words as they stand now.
-    pub fn into_words(self) -> &'a mut [u32; L]
-        ensures words { λ r. ⌜ now r ≡ now (self .entry .words) ⌝ }
-        ensures lent { λ r. ⌜ name r ≡ name (self .entry .words) ⌝ }
+    // The loan, with the words that it holds now.
+    pub fn into_words(self) -> &'a mut [u32]
+        ensures { λ r. ⌜ now r ≡ now (self .entry .words) ⌝ }
     {
         let words = self.words;
         words
     }
 
-    fn put(&mut self, line: u8, word: u32)
-        ensures words { λ _. ⌜ now (now (self .exit) .words) ≡ withWord (now (now (self .entry) .words)) line word ⌝ }
-        ensures lent { λ _. ⌜ name (now (self .exit) .words) ≡ name (now (self .entry) .words) ⌝ }
+    fn word(&self, line: u8) -> u32
+        ensures { λ r. ⌜ r ≡ wordAt (now (now (self .entry) .words)) line ⌝ }
     {
         let place = line as usize;
-        if place < L {
+        if place < self.words.len() {
+            self.words[place]
+        } else {
+            0
+        }
+    }
+
+    fn put(&mut self, line: u8, word: u32)
+        ensures { λ _. ⌜ now (now (self .exit) .words) ≡ withWord (now (now (self .entry) .words)) line word ⌝ }
+    {
+        let place = line as usize;
+        if place < self.words.len() {
             self.words[place] = word;
         }
     }
 }
 
-pub impl<'a, const L: usize> Memory for Flat<'a, L> as FlatMemory {
+pub impl<'a> Memory for Flat<'a> as FlatMemory {
     ghost words = { λ m. now (m .words) };
 
-    ghost bounds = { λ m. flat-bounds L (now (m .words)) (m .within) (m .whole) };
+    ghost bounds = { λ m. m .within };
 
     fn lines(&self) -> u8 {
-        L as u8
+        self.words.len() as u8
     }
 
     fn read(&self, line: u8) -> u32 {
-        word_at(self.words, line as usize)
+        self.word(line)
     }
 
     fn write(&mut self, line: u8, word: u32) {

@@ -1,12 +1,7 @@
-use mathlib.Core.Path.{sym, refl}
+use mathlib.Core.Path.{sym}
 use native.Mathlib.Omega.{arith}
 use Rattle.std.proofs.shelf.Lists.{set-past}
 use Rattle.memory.proofs.flat.Flat.put.Needs as need
 
-pub returns-else-place : need.returns-else-place
-returns-else-place g c =
-    let flat = c .args .self .now in
-    record {
-      words = sym (set-past (flat .words .now) (c .args .line) (c .args .word) (omega (arith, flat .whole)));
-      lent = refl;
-    }
+pub returns-else-place-self : need.returns-else-place-self
+returns-else-place-self c = sym (set-past (c .args .self .now .words .now) (c .args .line) (c .args .word) (omega arith))
