@@ -1,36 +1,61 @@
 -- Steps round the cores, and what a scan of the cores finds.
 use mathlib.Core.Path.{_≡_, refl, sym, ap, _∙_}
 use mathlib.Core.Logic.{inl, inr}
-use mathlib.Core.Bool.{true, false}
-use Prim.Native.Nat.{ℕ, zero, suc, _+_, _-_, _/_, _%_, _^_, _<_}
+use mathlib.Core.Bool.{true, false, cond}
+use Prim.Native.Nat.{ℕ, zero, suc, _+_, _-_, _%_, _<_, _≤_}
+use native.Mathlib.Nat.{add-mod-right, mod-eq-of-lt, mod-lt}
 use native.Mathlib.Omega.{arith}
-use Rattle.std.proofs.shelf.Tests.{cases-bool, cases-eq, cases-order, both-ways}
+use lib.Dec.{leb}
+use Rattle.std.proofs.shelf.Tests.{cases-bool, cases-eq, cases-order, both-ways, leb-true, leb-false}
 use Rattle.std.proofs.shelf.Ways.{tells}
 use Rattle.std.specs.declared.option.Option.the-variants.{Some, None}
 use Rattle.arbiter.specs.Granting.{readyAt}
 use Rattle.arbiter.specs.Rounds.{after, steps, scan, ownReady}
+use Rattle.arbiter.specs.Turns.{after-is-core}
 
 -- ---- steps
 
-pub steps-below : (n from core : ℕ) → from < n → core < n → steps n from core < n
-steps-below n from core h k = grind (arith, tells)
+-- by whether the way leads past the last core
+pub steps-by-way : (n from core : ℕ) → from < n → core < n → steps n from core ≡ cond (leb from core) (core - from) (core + n - from)
+steps-by-way n from core h k =
+    elim (cases-bool (leb from core)) [
+      | inl t ↦
+          let on : from ≤ core = leb-true from core t in
+          let split : core + n - from ≡ (core - from) + n = omega arith in
+          let short : core - from < n = omega arith in
+          rw t (ap (λ (x : ℕ). x % n) split ∙ add-mod-right (core - from) n ∙ mod-eq-of-lt short)
+      | inr t ↦
+          let back : core < from = leb-false from core t in
+          let short : core + n - from < n = omega arith in
+          rw t (mod-eq-of-lt short)
+    ]
 
-steps-own : (n core : ℕ) → steps n core core ≡ 0
-steps-own n core = grind (arith, tells)
+pub steps-below : (n from core : ℕ) → from < n → core < n → steps n from core < n
+steps-below n from core h k = mod-lt (core + n - from) (omega arith)
+
+steps-own : (n core : ℕ) → core < n → steps n core core ≡ 0
+steps-own n core h = let e = steps-by-way n core core h h in grind (arith, tells)
 
 -- one step on, every other core is one step nearer
 pub steps-after : (n from core : ℕ) → from < n → core < n → (core ≡ from → ⊥) → steps n (after n from) core + 1 ≡ steps n from core
-steps-after n from core h k ne = grind (arith, tells)
+steps-after n from core h k ne =
+    let e = steps-by-way n from core h k in
+    let f = steps-by-way n (after n from) core (after-is-core n from (omega arith)) k in
+    grind (arith, tells)
 
 -- past g, every core beyond g is nearer
 steps-past : (n from g core : ℕ) → from < n → g < n → core < n → steps n from g < steps n from core → steps n (after n g) core < steps n from core
-steps-past n from g core h k l far = grind (arith, tells)
+steps-past n from g core h k l far =
+    let e = steps-by-way n from g h k in
+    let e′ = steps-by-way n from core h l in
+    let f = steps-by-way n (after n g) core (after-is-core n g (omega arith)) l in
+    grind (arith, tells)
 
 steps-same : (n from g core : ℕ) → from < n → g < n → core < n → steps n from g ≡ steps n from core → g ≡ core
-steps-same n from g core h k l e = grind (arith, tells)
-
-after-below : (n core : ℕ) → 0 < n → after n core < n
-after-below n core h = grind (arith, tells)
+steps-same n from g core h k l same =
+    let e = steps-by-way n from g h k in
+    let e′ = steps-by-way n from core h l in
+    grind (arith, tells)
 
 -- ---- scans
 
@@ -58,10 +83,10 @@ module _ (n ready : ℕ) where
             record {
               is-core = rw same h;
               is-ready = rw same t;
-              nearest = λ core l near. let z : steps n from g ≡ 0 = rw same (steps-own n from) in absurd (omega arith);
+              nearest = λ core l near. let z : steps n from g ≡ 0 = rw same (steps-own n from h) in absurd (omega arith);
             }
         | inr t ↦
-            let rest = scan-found k (after n from) g (after-below n from (omega arith)) (rw t at e) in
+            let rest = scan-found k (after n from) g (after-is-core n from (omega arith)) (rw t at e) in
             let apart : g ≡ from → ⊥ = λ same. both-ways (readyAt ready from) t (rw same at (rest .is-ready)) in
             let far = steps-after n from g h (rest .is-core) apart in
             record {
@@ -83,7 +108,7 @@ module _ (n ready : ℕ) where
         | inr t ↦
             elim (cases-eq core from) [
               | inl same ↦ rw same t
-              | inr ne ↦ scan-none k (after n from) core (after-below n from (omega arith)) l (rw t at e) (omega (arith, steps-after n from core h l ne))
+              | inr ne ↦ scan-none k (after n from) core (after-is-core n from (omega arith)) l (rw t at e) (omega (arith, steps-after n from core h l ne))
             ]
       ]
 

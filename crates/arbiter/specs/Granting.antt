@@ -1,15 +1,15 @@
 -- What a grant is, and what every arbiter is held to. The five members of an arbiter are told at the trait.
-use Prim.Native.Nat.{ℕ, _/_, _%_, _^_, _<_, _≤_}
+use Prim.Native.Nat.{ℕ, _%_, _^_, _<_, _≤_}
 use mathlib.Core.Path.{_≡_}
 use mathlib.Core.Bool.{Bool, true}
 use mathlib.Core.List.{List, [], _∷_}
-use lib.Dec.{eqb}
 use Rattle.std.specs.declared.option.Option.{Option}
 use Rattle.std.specs.declared.option.Option.the-variants.{Some}
+use Rattle.model.specs.Bits.{bitAt}
 
 -- whether a core is ready: its bit stands
 abbrev pub readyAt : ℕ → ℕ → Bool
-readyAt ready core = eqb (ready / 2 ^ core % 2) 1
+readyAt ready core = bitAt ready core
 
 -- **The granting law: bounded waiting.** Each ready core is a distance below W from its grant, and comes closer whenever
 -- it is passed over, so it is passed over less than W times in a row.

@@ -2,18 +2,18 @@
 use Prim.Native.Nat.{ℕ, zero, suc, _+_, _-_, _%_}
 use mathlib.Core.Bool.{cond}
 use mathlib.Core.List.{List, [], _∷_}
-use lib.Dec.{leb, ltb}
+use lib.Dec.{ltb}
 use Rattle.std.specs.declared.option.Option.{Option}
 use Rattle.std.specs.declared.option.Option.the-variants.{Some, None}
 use Rattle.arbiter.specs.Granting.{readyAt}
 
--- the core after this one
+-- the core after this one: core 0 after the last
 abbrev pub after : ℕ → ℕ → ℕ
 after n core = cond (ltb core (n - 1)) (core + 1) 0
 
--- how many steps it is from one core to another: (core − from) mod n
+-- how many steps it is from one core to another, from below n
 abbrev pub steps : ℕ → ℕ → ℕ → ℕ
-steps n from core = cond (leb from core) (core - from) (core + n - from)
+steps n from core = (core + n - from) % n
 
 -- the first ready core among k cores, this one first
 abbrev pub scan : ℕ → ℕ → ℕ → ℕ → Option ℕ

@@ -15,7 +15,8 @@ use Rattle.std.proofs.shelf.Bits.{pow-below, mod-below}
 use Rattle.std.proofs.shelf.Counted.{length-map-counting, getD-map-counting}
 use Rattle.std.proofs.shelf.Lists.{ext-getD, getD-set-same, getD-set-other}
 use Rattle.std.proofs.shelf.Tests.{cases-order, cases-bool, eqb-true, eq-eqb, ne-eqb}
-use Rattle.memory.specs.Packing.{bitAt, rank, lineWord, unpacked}
+use Rattle.model.specs.Bits.{bitAt}
+use Rattle.memory.specs.Packing.{rank, lineWord, unpacked}
 
 -- ---- a bit added at i
 
@@ -41,12 +42,18 @@ bit-own m i h = ap (λ x. x / 2 ^ i) (as-digit m i) ∙ high 1 i h
 rest-own : (m i : ℕ) → m < 2 ^ i → (m + 2 ^ i) % 2 ^ i ≡ m
 rest-own m i h = ap (λ x. x % 2 ^ i) (as-digit m i) ∙ low 1 i h
 
-ones-one : ones 1 ≡ 1
+pub ones-zero : ones 0 ≡ 0
 unfolding ones
-ones-one = refl
+ones-zero = refl
+
+pub ones-bit : (b : ℕ) → b < 2 → ones b ≡ b
+ones-bit b h =
+    let low : b / 2 ≡ 0 = omega arith in
+    let rest : ones (b / 2) ≡ 0 = ap ones low ∙ ones-zero in
+    ones-step b ∙ omega arith
 
 pub ones-more : (m i : ℕ) → m < 2 ^ i → ones (m + 2 ^ i) ≡ ones m + 1
-ones-more m i h = ap ones (as-digit m i) ∙ ones-cat i 1 m h ∙ ap (λ x. x + ones m) ones-one ∙ add-comm 1 (ones m)
+ones-more m i h = ap ones (as-digit m i) ∙ ones-cat i 1 m h ∙ ap (λ x. x + ones m) (ones-bit 1 (omega arith)) ∙ add-comm 1 (ones m)
 
 pub below-more-bits : (m i : ℕ) → m < 2 ^ i → m + 2 ^ i < 2 ^ (i + 1)
 below-more-bits m i h = let e : 2 ^ (i + 1) ≡ 2 ^ i * 2 = pow-add 2 i 1 in omega arith

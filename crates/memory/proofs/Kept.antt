@@ -6,25 +6,16 @@ use mathlib.Core.List.{List, _∷_, map}
 use Prim.Native.Nat.{ℕ, zero, suc, _+_, _*_, _/_, _%_, _^_, _<_, _≤_}
 use native.Mathlib.Nat.{div-eq-of-lt, mod-eq-of-lt, add-zero, mod-lt}
 use native.Mathlib.Omega.{arith}
-use lib.Count.{ones, ones-cat, ones-step}
+use lib.Count.{ones, ones-cat}
 use lib.Dec.{eqb}
 use lib.ListN.{length, getD, take, drop, drop-of-length-le}
 use lib.Pow.{pow-pos, mod-pow-add, shr-shr}
 use Rattle.std.specs.Iters.{counting}
 use Rattle.std.proofs.shelf.Lists.{drop-more, getD-past, getD-take, length-take-le}
 use Rattle.std.proofs.shelf.Tests.{cases-bool, cases-order, eqb-true, eqb-false, ne-eqb}
-use Rattle.memory.specs.Packing.{bitAt, rank, lineWord, bitmapOf, nonZero}
-use Rattle.memory.proofs.Bitmaps.{rank-lt}
-
-pub ones-zero : ones 0 ≡ 0
-unfolding ones
-ones-zero = refl
-
-ones-bit : (b : ℕ) → b < 2 → ones b ≡ b
-ones-bit b h =
-    let low : b / 2 ≡ 0 = omega arith in
-    let rest : ones (b / 2) ≡ 0 = ap ones low ∙ ones-zero in
-    ones-step b ∙ omega arith
+use Rattle.model.specs.Bits.{bitAt}
+use Rattle.memory.specs.Packing.{rank, lineWord, bitmapOf, nonZero}
+use Rattle.memory.proofs.Bitmaps.{ones-bit, rank-lt}
 
 -- one line on, there is its own bit more
 rank-more : (bits i : ℕ) → rank bits (i + 1) ≡ bits / 2 ^ i % 2 + rank bits i

@@ -1,15 +1,12 @@
 -- Words behind a bit map: only the words whose bit stands are kept, in rising line order.
-use Prim.Native.Nat.{ℕ, _+_, _*_, _/_, _%_, _^_}
-use mathlib.Core.Bool.{Bool, cond}
+use Prim.Native.Nat.{ℕ, _+_, _*_, _%_, _^_}
+use mathlib.Core.Bool.{cond}
 use mathlib.Core.List.{List, [], _∷_, map}
 use lib.Count.{ones}
 use lib.Dec.{eqb}
 use lib.ListN.{getD}
 use Rattle.std.specs.Iters.{counting}
-
--- whether a line's bit stands
-abbrev pub bitAt : ℕ → ℕ → Bool
-bitAt bits line = eqb (bits / 2 ^ line % 2) 1
+use Rattle.model.specs.Bits.{bitAt}
 
 -- how many bits stand below a line's own
 abbrev pub rank : ℕ → ℕ → ℕ

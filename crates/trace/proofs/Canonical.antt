@@ -15,7 +15,8 @@ use Rattle.std.proofs.shelf.Bits.{shr-shr, div-mul-add, mod-mul-add}
 use Rattle.std.proofs.shelf.Ways.{tells}
 use Rattle.model.specs.Numbers.{kindNumber, kindOf}
 use Rattle.trace.specs.declared.Record.{Record}
-use Rattle.trace.specs.Reading.{decode, bit, size, lineAt, wordAt, kindAt, mapOf, has, bigEndian, gapIn, lineIn, wordIn, kindIn}
+use Rattle.model.specs.Bits.{bit}
+use Rattle.trace.specs.Reading.{decode, size, lineAt, wordAt, kindAt, mapOf, has, bigEndian, gapIn, lineIn, wordIn, kindIn}
 use Rattle.trace.specs.Writing.{bytesOf, part, mapBy, differs, encode}
 use Rattle.trace.proofs.Accepted.{accepted}
 use Rattle.trace.proofs.Windows.{Bytes}

@@ -16,7 +16,8 @@ use Rattle.refusal.specs.declared.Refusal.{Refusal}
 use Rattle.refusal.specs.Refusals.{refusal, andThen}
 use Rattle.trace.specs.declared.Record.{Record}
 use Rattle.trace.specs.declared.bundle.Span.{Span}
-use Rattle.trace.specs.Reading.{bigEndian, bit, mapOf}
+use Rattle.model.specs.Bits.{bit}
+use Rattle.trace.specs.Reading.{bigEndian, mapOf}
 use Rattle.trace.specs.Whole.{recordsFrom, recordsIn, countOf, Rewritten}
 use Rattle.trace.specs.Bundle.{span, noTrace, spanAt, spansFrom, Readable}
 use Rattle.trace.proofs.Apart.{err-ok, ok-err}

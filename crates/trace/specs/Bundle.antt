@@ -13,7 +13,8 @@ use Rattle.refusal.specs.Refusals.{refusal, andThen}
 use Rattle.trace.specs.declared.Record.{Record}
 use Rattle.trace.specs.declared.bundle.Span.{Span}
 use Rattle.trace.specs.declared.bundle.Bundle.{Bundle}
-use Rattle.trace.specs.Reading.{bigEndian, bit, mapOf}
+use Rattle.model.specs.Bits.{bit}
+use Rattle.trace.specs.Reading.{bigEndian, mapOf}
 use Rattle.trace.specs.Writing.{differs}
 use Rattle.trace.specs.Whole.{window, recordsIn, encodeAll}
 

@@ -1,5 +1,5 @@
 -- A trace record, read from bytes that begin with its map byte.
-use Prim.Native.Nat.{ℕ, zero, suc, _+_, _*_, _/_, _%_, _^_}
+use Prim.Native.Nat.{ℕ, zero, suc, _+_, _*_, _/_}
 use mathlib.Core.Bool.{Bool, cond, _&&_, _||_, not}
 use mathlib.Core.List.{List}
 use lib.Dec.{eqb, ltb, leb}
@@ -8,12 +8,9 @@ use Rattle.std.specs.declared.result.Result.{Result}
 use Rattle.std.specs.declared.result.Result.the-variants.{Ok, Err}
 use Rattle.refusal.specs.declared.Reason.{Reason}
 use Rattle.refusal.specs.declared.Reason.the-variants.{UnknownMapBits, CutShort, KindByte, RedundantField}
+use Rattle.model.specs.Bits.{bit, bitAt}
 use Rattle.model.specs.Numbers.{kindOf}
 use Rattle.trace.specs.declared.Record.{Record}
-
--- bit k of a map byte, as 0 or 1
-abbrev pub bit : ℕ → ℕ → ℕ
-bit map k = map / 2 ^ k % 2
 
 -- where the fields stand and where the record ends: a gap has 2 bytes, a line 1, a word 4, a kind 1
 abbrev pub lineAt : ℕ → ℕ
@@ -38,7 +35,7 @@ abbrev pub mapOf : List ℕ → ℕ
 mapOf bytes = getD bytes 0 0
 
 abbrev pub has : List ℕ → ℕ → Bool
-has bytes k = eqb (bit (mapOf bytes) k) 1
+has bytes k = bitAt (mapOf bytes) k
 
 -- the field of bit k, of so many bytes at a place, or what its absence means
 abbrev pub field : List ℕ → ℕ → ℕ → ℕ → ℕ → ℕ

@@ -2,7 +2,6 @@ use mathlib.Core.Path.{_≡_, sym, ap, _∙_}
 use mathlib.Core.Bool.{true, false}
 use Prim.Native.Nat.{_+_, _-_, _<_, _≤_}
 use native.Mathlib.Omega.{arith}
-use Rattle.std.specs.declared.option.Option.the-variants.{Some}
 use Rattle.arbiter.specs.Waiting.{isGranted}
 use Rattle.arbiter.proofs.Waits.{not-granted, until-granted, until-passed}
 use Rattle.arbiter.proofs.waiting.counted.Needs as need
@@ -34,9 +33,10 @@ returns g c =
     let core = c .args .core in
     let count = c .loop-count .count in
     let all = m .wait (c .args .arbiter .now) in
-    let granted : isGranted (m .picks a ready) core ≡ true = ap (λ o. isGranted o core) (sym (c .grant .ensures .answer)) ∙ sym (c .loop-count-test .ensures tt) in
+    let granted : isGranted (m .picks a ready) core ≡ true = rw (← c .grant .ensures .answer) (sym {b = isGranted (c .grant .result) core} (c .loop-count-test .ensures tt)) in
     let made : count - 1 + 1 ≡ count = omega (arith, inv .0) in
+    let ended = until-granted (m .picks) (m .moves) ready core (all - (count - 1)) (count - 1) a (omega (arith, inv .0, inv .2)) granted in
     record {
-      until = rw (c .grant .ensures .after, ← made) (sym (until-granted (m .picks) (m .moves) ready core (all - (count - 1)) (count - 1) a (omega (arith, inv .0, inv .2)) granted) ∙ inv .3);
+      until = rw (c .grant .ensures .after, ← made) (sym ended ∙ inv .3);
       soon = omega (arith, inv .2);
     }

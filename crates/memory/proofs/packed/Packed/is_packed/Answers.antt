@@ -5,8 +5,8 @@ use native.Mathlib.Omega.{arith}
 use lib.Count.{ones}
 use lib.ListN.{drop, take}
 use Rattle.memory.specs.Packing.{rank}
-use Rattle.memory.proofs.Bitmaps.{length-unpacked}
-use Rattle.memory.proofs.Kept.{bitmap-from, kept-from, ones-zero}
+use Rattle.memory.proofs.Bitmaps.{length-unpacked, ones-zero}
+use Rattle.memory.proofs.Kept.{bitmap-from, kept-from}
 use Rattle.memory.proofs.packed.Packed.is_packed.Needs as need
 
 pub returns : need.returns

@@ -6,7 +6,8 @@ use lib.Count.{ones}
 use lib.ListN.{getD}
 use Rattle.std.proofs.shelf.Lists.{getD-past}
 use Rattle.std.proofs.shelf.Tests.{eq-eqb, ne-eqb}
-use Rattle.memory.specs.Packing.{bitAt, lineWord}
+use Rattle.model.specs.Bits.{bitAt}
+use Rattle.memory.specs.Packing.{lineWord}
 use Rattle.memory.specs.Unpacked.{wordsOf}
 use Rattle.memory.proofs.Bitmaps.{getD-unpacked, length-unpacked}
 use Rattle.memory.proofs.packed.Packed.word.Needs as need
