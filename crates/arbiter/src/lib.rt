@@ -21,8 +21,8 @@ pub use work_conserving::WorkConserving;
 pub use work_conserving::WorkConservingArbiter;
 
 // An arbiter grants the bus to one ready core at a time, with bounded waiting: it has a wait W, and a core that stays ready
-// is granted at one of the next W grants. What that takes is the granting law. Whoever keeps it may put in an arbiter of
-// their own: the ghost members, which no code holds, say how the law is kept.
+// is granted at one of the next W grants. Whoever keeps the granting law may put in an arbiter of their own; the ghost
+// members, which no code holds, say how it is kept.
 pub trait Arbiter: Sized {
     // N, the number of cores, 1 to 8.
     ghost coreCount: { Self → ℕ };
@@ -39,7 +39,8 @@ pub trait Arbiter: Sized {
     // The arbiter after that grant.
     ghost moves: { Self → ℕ → Self };
 
-    // The granting law.
+    // The granting law. N and W never change; bits from N up count for nothing; a granted core is one of the N, and ready;
+    // a ready core that is not granted has a smaller distance afterwards; distances are 0 to W − 1.
     law bounded_waiting: { BoundedWaiting coreCount wait distance picks moves };
 
     fn cores(&self) -> u8
