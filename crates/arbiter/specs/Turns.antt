@@ -5,7 +5,6 @@ use lib.Dec.{ltb}
 use Rattle.std.proofs.shelf.Tests.{cond-both, ltb-true}
 use Rattle.std.specs.declared.option.Option.{Option}
 use Rattle.std.specs.declared.option.Option.the-variants.{Some, None}
-use Rattle.model.specs.declared.cores.Cores.{Cores}
 use Rattle.arbiter.specs.declared.turn.Turn.{Turn}
 use Rattle.arbiter.specs.Rounds.{after, firstReady, ownReady, steps}
 

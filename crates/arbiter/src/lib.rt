@@ -5,9 +5,9 @@ ghost use Rattle.std.specs.declared.option.Option.{Option};
 ghost use Rattle.arbiter.specs.Granting.{BoundedWaiting};
 
 mod fixed_slots;
+mod makings;
 mod ready;
 mod round_robin;
-mod rules;
 mod turn;
 mod waiting;
 mod work_conserving;

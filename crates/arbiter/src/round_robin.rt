@@ -1,28 +1,13 @@
-ghost use mathlib.Core.Path.{_≡_};
-ghost use Rattle.arbiter.specs.Shipped.{roundRobinPicks, roundRobinMoves, RoundRobinRule};
+ghost use Rattle.arbiter.specs.Shipped.{roundRobinPicks, roundRobinMoves};
 ghost use Rattle.arbiter.specs.Turns.{turnsTo};
 use crate::Arbiter;
-use crate::rules::rules_hold;
 use crate::turn::Turn;
-use model::Cores;
 
 // Round robin: the first ready core after the last granted one, starting with core 0. Where none is ready the last stays.
 // The wait is N.
 #[derive(Clone, Copy)]
 pub struct RoundRobin {
-    turn: Turn,
-}
-
-impl RoundRobin {
-    pub fn new(cores: Cores) -> RoundRobin
-        ensures made { λ r. ⌜ (r .turn .cores ≡ cores) × (r .turn .core ≡ 0) ⌝ }
-        ensures rule { λ r. ⌜ RoundRobinRule r ⌝ }
-    {
-        rules_hold();
-        RoundRobin {
-            turn: Turn::new(cores),
-        }
-    }
+    pub(crate) turn: Turn,
 }
 
 pub impl Arbiter for RoundRobin as RoundRobinArbiter {

@@ -1,20 +1,18 @@
 -- A bit added above all others, and the words that there are then.
 use mathlib.Core.Path.{_≡_, refl, sym, ap, _∙_}
 use mathlib.Core.Logic.{inl, inr}
-use mathlib.Core.Bool.{true, false, cond}
+use mathlib.Core.Bool.{true}
 use mathlib.Core.List.{List}
-use Prim.Native.Nat.{ℕ, zero, suc, _+_, _-_, _*_, _/_, _%_, _^_, _<_, _≤_}
-use native.Mathlib.Nat.{add-mul-div-right, add-mul-mod-self-right, div-eq-of-lt, pow-suc, add-comm, mul-comm}
+use Prim.Native.Nat.{ℕ, suc, _+_, _-_, _*_, _/_, _%_, _^_, _<_, _≤_}
+use native.Mathlib.Nat.{add-mul-div-right, add-mul-mod-self-right, div-eq-of-lt, pow-suc, add-comm}
 use native.Mathlib.Omega.{arith}
 use lib.Count.{ones, ones-cat, ones-step}
-use lib.Dec.{eqb}
 use lib.ListN.{length, getD, set, length-set, replicate, length-replicate, getD-replicate}
 use lib.Pow.{pow-pos, pow-add, pow-mono, high, low, split}
-use Rattle.std.specs.Iters.{counting}
-use Rattle.std.proofs.shelf.Bits.{pow-below, mod-below}
+use Rattle.std.proofs.shelf.Bits.{mod-below}
 use Rattle.std.proofs.shelf.Counted.{length-map-counting, getD-map-counting}
 use Rattle.std.proofs.shelf.Lists.{ext-getD, getD-set-same, getD-set-other}
-use Rattle.std.proofs.shelf.Tests.{cases-order, cases-bool, eqb-true, eq-eqb, ne-eqb}
+use Rattle.std.proofs.shelf.Tests.{cases-order, cases-bool, eqb-true}
 use Rattle.model.specs.Bits.{bitAt}
 use Rattle.memory.specs.Packing.{rank, lineWord, unpacked}
 

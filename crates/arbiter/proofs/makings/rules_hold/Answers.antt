@@ -4,7 +4,7 @@ use Rattle.std.specs.declared.option.Option.the-variants.{None}
 use Rattle.arbiter.specs.Rounds.{firstReady, ownReady}
 use Rattle.arbiter.specs.Shipped.{fixedSlotsMoves, workConservingMoves}
 use Rattle.arbiter.proofs.Orders.{rounds-in-order, slots-in-order}
-use Rattle.arbiter.proofs.rules.rules_hold.Needs as need
+use Rattle.arbiter.proofs.makings.rules_hold.Needs as need
 
 pub returns : need.returns
 returns c = record {
