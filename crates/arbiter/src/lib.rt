@@ -1,3 +1,4 @@
+#![tactic(auto)]
 // Arbiters: which ready core's message goes out on the bus next.
 ghost use Rattle.std.specs.Prelude.{◌≡◌, ℕ, Option};
 ghost use Rattle.arbiter.specs.Granting.{BoundedWaiting};

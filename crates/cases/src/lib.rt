@@ -1,3 +1,4 @@
+#![tactic(auto)]
 // Worked cases: what the rules answer to small inputs, proved of the definitions; the tests run many of them through the code.
 ghost use Rattle.std.specs.Prelude.{◌≡◌, ◌+◌};
 ghost use Rattle.cases.specs.Format.{FormatCases, format_count};

@@ -1,3 +1,4 @@
+#![tactic(auto)]
 // Cache coherence: the states of a line in a core's cache, the controller that moves it from one to the other, the table of
 // its moves, and the records of every line in every core.
 mod controller;

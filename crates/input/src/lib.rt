@@ -1,3 +1,4 @@
+#![tactic(auto)]
 // What the programs read from standard input: five settings, one byte each, and a bundle of traces.
 ghost use Rattle.std.specs.Prelude.{◌≡◌, ◌+◌, drop, IfOk};
 ghost use Rattle.trace.specs.Bundle.{bundle_of, AllReadable};

@@ -1,3 +1,4 @@
+#![tactic(auto)]
 // The listing of a program's input: a row for each record of each core, or why there is none.
 ghost use Rattle.std.specs.Prelude.{◌≡◌, true, ◌++◌, drop, is_ok, IfOk, Some, Ok, string_bytes, OnOk, slice_index_or};
 ghost use Rattle.trace.specs.Bundle.{no_trace, Readable, AllReadable};

@@ -1,3 +1,4 @@
+#![tactic(auto)]
 // Backing memories: what stands behind the caches.
 ghost use Rattle.std.specs.Prelude.{◌≡◌, ℕ, List, length};
 ghost use Rattle.memory.specs.Words.{LineBounds, word_at, with_word};

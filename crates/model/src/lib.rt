@@ -1,3 +1,4 @@
+#![tactic(auto)]
 // The words of the model that stand for numbers or letters: kinds of access, paths, arbiters, cores and lines.
 ghost use Rattle.std.specs.Prelude.{◌≡◌, [], ◌∷◌, Some, Ok};
 ghost use Rattle.model.specs.Numbers.{kind_number, kind_letter, kind_check, path_number, path_check, arbiter_number, arbiter_check, cores_check, cores_counted, lines_check, lines_counted, core_check, core_numbered, line_check, line_numbered};

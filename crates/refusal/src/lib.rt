@@ -1,3 +1,4 @@
+#![tactic(auto)]
 // Why a call says no: a reason, which has a number, and the place of the fault.
 ghost use Rattle.std.specs.Prelude.{◌≡◌, Some};
 ghost use Rattle.refusal.specs.Refusals.{number, refusal, refused_text};

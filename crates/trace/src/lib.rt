@@ -1,3 +1,4 @@
+#![tactic(auto)]
 // Traces: what a core does, as records in bytes; and bundles, one trace for each core.
 mod bundle;
 mod decode;

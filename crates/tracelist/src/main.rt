@@ -1,3 +1,4 @@
+#![tactic(auto)]
 // Lists the program input that stands on standard input, or says why it is refused.
 use input::read_limit;
 use listing::listing;
