@@ -20,6 +20,11 @@ fn no_bits()
     ensures { (n : ℕ) (kept : List ℕ) → unpacked n 0 kept ≡ replicate n 0 }
 {}
 
+// There is a cell for each of 64 lines.
+fn all_cells(kept: &[u32; 64])
+    ensures { length kept.now ≡ 64 }
+{}
+
 impl Packed {
     // Every word is 0.
     pub fn new(lines: Lines) -> Packed
@@ -111,6 +116,7 @@ impl Packed {
         ensures above { result.bits < 2 ^ (line + 1) }
         ensures words { words_of result ≡ with_word (words_of self) line word }
     {
+        all_cells(&self.kept);
         self.takes(line, word);
         let mut kept = self.kept;
         kept[self.count as usize] = word;

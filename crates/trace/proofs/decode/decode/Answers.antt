@@ -6,17 +6,17 @@ pub returns-then-map-ge16 : goal.returns-then-map-ge16
 unfolding decode
 returns-then-map-ge16 c = search rules
 
-pub returns-then-bytes-size-of : goal.returns-then-bytes-size-of
+pub returns-then-bytes-size_of : goal.returns-then-bytes-size_of
 unfolding decode
-returns-then-bytes-size-of c = search rules
+returns-then-bytes-size_of c = search rules
 
-pub returns-then-has-strange-kind : goal.returns-then-has-strange-kind
+pub returns-then-has_strange_kind : goal.returns-then-has_strange_kind
 unfolding decode
-returns-then-has-strange-kind c = search rules
+returns-then-has_strange_kind c = search rules
 
-pub returns-then-is-redundant : goal.returns-then-is-redundant
+pub returns-then-is_redundant : goal.returns-then-is_redundant
 unfolding decode
-returns-then-is-redundant c = search rules
+returns-then-is_redundant c = search rules
 
 pub returns : goal.returns
 unfolding decode

@@ -10,4 +10,4 @@ unfolding encode
 returns c =
     let r = c.args.rec in
     let seen = laid (differs r.gap 0) (differs r.line c.args.before) (differs r.word 0) (differs (kind_number r.kind) 0) r [] 0 in
-    record { value = c.size-of.ensures ∙ (ap size c.map-for.ensures ∙ ap (λ x. x.3) seen); some = omega (arith, c.size-of.ensures) }
+    record { value = c.size_of.ensures ∙ (ap size c.map_for.ensures ∙ ap (λ x. x.3) seen); some = omega (arith, c.size_of.ensures) }

@@ -9,5 +9,5 @@ pub returns : goal.returns
 returns c =
     record {
       place = rw c.if-not-present.false;
-      bytes = rw c.if-not-present.false (put_middle c.args.out.now c.args.at _ c.args.bytes.now _ c.copy-from-slice.ensures.after (omega arith));
+      bytes = rw c.if-not-present.false (put_middle c.args.out.now c.args.at _ c.args.bytes.now _ c.copy_from_slice.ensures.after (omega arith));
     }

@@ -12,5 +12,5 @@ loop-number-preserved c =
     let records = c.loop-number.self.records in
     let at = place_of c.loop-number.number c.args.line.number in
     c.handle.ensures.records
-    ∙ ap (λ e. set records at (moved e (get_or records at blank))) c.heard-as-event.ensures
+    ∙ ap (λ e. set records at (moved e (get_or records at blank))) c.heard_as-event.ensures
     ∙ told_more _ _ _ _ _ records c.args.line.within c.loop-number.invariant

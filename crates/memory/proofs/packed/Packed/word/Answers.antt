@@ -1,5 +1,6 @@
-use Rattle.std.proofs.Common.{◌≡◌, ◌%◌, ◌^◌, ◌<◌, true, false, get_or, sym, ◌∙◌, arith}
+use Rattle.std.proofs.Common.{◌≡◌, ◌%◌, ◌^◌, ◌<◌, true, false, get_or, sym, ◌∙◌, mod-lt, arith, pow_pos}
 use lib.Count.{ones}
+use Rattle.std.proofs.lemmas.Nat.{ones-le}
 use Rattle.std.proofs.lemmas.List.{get_or_past}
 use Rattle.std.proofs.lemmas.Bool.{eq-eqb, ne_eqb}
 use Rattle.model.specs.Bits.{bit_at}
@@ -12,6 +13,14 @@ pub returns-then-line-self : goal.returns-then-line-self
 returns-then-line-self c =
     let p = c.args.self.now in
     sym (get_or_past (words_of p) c.args.line 0 (omega (arith, length_unpacked p.lines.count p.bits p.kept)))
+
+-- as many bits stand below a line's own as there are lines before it, at most
+pub bounds-self-rank : goal.bounds-self-rank
+bounds-self-rank c =
+    let p = c.args.self.now in
+    let i = c.args.line in
+    let below : p.bits % c.bit.result < 2 ^ i = rw c.bit.ensures (mod-lt p.bits (pow_pos i)) in
+    omega (arith, ones-le i (p.bits % c.bit.result) below, p.lines.within.1)
 
 pub returns-then-self-line-eq1 : goal.returns-then-self-line-eq1
 returns-then-self-line-eq1 c =
