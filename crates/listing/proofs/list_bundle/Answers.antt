@@ -6,7 +6,7 @@ use Rattle.listing.proofs.list_bundle.Goals as goal
 
 pub returns : goal.returns
 returns c =
-    five_parts (string_bytes c.in-ok-text.text) (string_bytes c.push-traces.new.text) (string_bytes c.push-str.new.self) (string_bytes c.push-totals.new.text) (string_bytes c.push-str-2.new.self)
+    five_parts (string_bytes c.in_ok-text.text) (string_bytes c.push_traces.new.text) (string_bytes c.push_str.new.self) (string_bytes c.push_totals.new.text) (string_bytes c.push_str-2.new.self)
     head (for_cores (λ core. trace_text c.args.bytes.now core (get_or c.args.bundle.spans core no_trace)) c.args.cores.count 0) (codes "total")
     (for_cores (λ core. total_text core (get_or c.args.bundle.spans core no_trace)) c.args.cores.count 0) (codes "\n")
-    c.in-ok-text.ensures.ok c.in-ok-push-traces.ensures c.in-ok-push-str.ensures.bytes c.in-ok-push-totals.ensures c.in-ok-push-str-2.ensures.bytes
+    c.in_ok-text.ensures.ok c.in_ok-push_traces.ensures c.in_ok-push_str.ensures.bytes c.in_ok-push_totals.ensures c.in_ok-push_str-2.ensures.bytes

@@ -7,7 +7,7 @@ use Rattle.listing.proofs.push_totals.Goals as goal
 pub loop-core-preserved : goal.loop-core-preserved
 loop-core-preserved c =
     core_more (λ core. total_text core (get_or c.args.bundle.spans core no_trace)) _ _ c.args.cores.count c.loop-core.core c.loop-core.invariant _
-    c.loop-core-test.true c.in-ok-push-total.ensures
+    c.loop-core-test.true c.in_ok-push_total.ensures
 
 pub returns : goal.returns
 returns c =

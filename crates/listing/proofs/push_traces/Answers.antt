@@ -7,7 +7,7 @@ use Rattle.listing.proofs.push_traces.Goals as goal
 pub loop-core-preserved : goal.loop-core-preserved
 loop-core-preserved c =
     core_more (λ core. trace_text c.args.bytes.now core (get_or c.args.bundle.spans core no_trace)) _ _ c.args.cores.count c.loop-core.core c.loop-core.invariant _
-    c.loop-core-test.true c.in-ok-push-trace.ensures
+    c.loop-core-test.true c.in_ok-push_trace.ensures
 
 pub returns : goal.returns
 returns c =
