@@ -1,5 +1,5 @@
 -- A record that is written is read back.
-use Rattle.std.proofs.Common.{◌≡◌, ℕ, ◌+◌, Bool, false, cond, not, ◌&&◌, ◌||◌, eqb, ltb, leb, List, ◌++◌, length, Ok, Err, Result, refl, ap, ◌∙◌, arith, length-append}
+use Rattle.std.proofs.Common.{◌≡◌, ℕ, Bool, false, cond, not, ◌&&◌, ◌||◌, eqb, ltb, leb, List, ◌++◌, length, Ok, Err, Result, refl, ap, ◌∙◌, arith, length-append}
 use Rattle.refusal.specs.declared.Reason.{Reason}
 use Rattle.refusal.specs.declared.Reason.TheVariants.{UnknownMapBits, CutShort, KindByte, RedundantField}
 use Rattle.std.proofs.lemmas.Bool.{le-ltb}

@@ -1,4 +1,4 @@
-use Rattle.std.proofs.Common.{◌≡◌, ◌<◌, ◌≤◌, ltb, length, set, sym, inl, inr, arith, length-set}
+use Rattle.std.proofs.Common.{◌≤◌, ltb, length, set, inl, inr, arith, length-set}
 use Rattle.std.proofs.lemmas.List.{get_or_past, get_or-set_same, get_or-set_other}
 use Rattle.std.proofs.lemmas.Bool.{cases_Bool, ltb-true, ltb-false}
 use Rattle.memory.proofs.keeping.words_are_kept.Goals as goal

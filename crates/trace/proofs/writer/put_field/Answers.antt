@@ -1,4 +1,4 @@
-use Rattle.std.proofs.Common.{◌-◌, sym, arith}
+use Rattle.std.proofs.Common.{sym, arith}
 use Rattle.trace.proofs.Buffers.{put_middle, put_none}
 use Rattle.trace.proofs.writer.put_field.Goals as goal
 

@@ -1,5 +1,5 @@
-use Rattle.std.proofs.Common.{◌≡◌, ◌+◌, ◌-◌, ◌<◌, sym, ap, ◌∙◌, arith}
-use Rattle.arbiter.specs.Rounds.{after, scan}
+use Rattle.std.proofs.Common.{◌≡◌, ◌+◌, ◌-◌, ◌<◌, sym, ◌∙◌, arith}
+use Rattle.arbiter.specs.Rounds.{after}
 use Rattle.arbiter.specs.Turns.{after_is_core}
 use Rattle.arbiter.specs.Scans.{scan_here, scan_on}
 use Rattle.arbiter.proofs.turn.passing.scanned.Goals as goal

@@ -1,4 +1,4 @@
-use Rattle.std.proofs.Common.{◌<◌, ◌≡◌, sym, ap, ◌∙◌, arith, pow_pos}
+use Rattle.std.proofs.Common.{sym, arith, pow_pos}
 use Rattle.memory.proofs.Bitmaps.{ones_zero}
 use Rattle.memory.proofs.packed.Packed.new.Goals as goal
 

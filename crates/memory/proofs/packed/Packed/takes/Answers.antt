@@ -1,4 +1,4 @@
-use Rattle.std.proofs.Common.{◌≡◌, ◌+◌, ◌^◌, ◌≤◌, sym, ap, ◌∙◌, arith, pow_mono}
+use Rattle.std.proofs.Common.{◌+◌, ◌^◌, ◌≤◌, sym, ap, ◌∙◌, arith, pow_mono}
 use Rattle.memory.proofs.Bitmaps.{below_more_bits, no_zero_more, ones_more, unpacked_more}
 use Rattle.memory.proofs.packed.Packed.takes.Goals as goal
 
