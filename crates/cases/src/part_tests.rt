@@ -158,7 +158,7 @@ fn memories_keep_words(rt: HostRuntime) -> Result<(), Fail> {
     let mut flat = Flat::new(&mut words, FlatLines::check()?);
     kept(&rt, &mut flat, 4);
     let lent: &[u32] = flat.into_words();
-    assert_eq!(rt; lent, &[0, 9, 0, 5]);
+    assert_eq!(rt; lent, [0, 9, 0, 5].as_slice());
     assert_eq!(rt; words, [0, 9, 0, 5]);
     kept(&rt, &mut Packed::new(Lines::check(4)?), 4);
     kept(&rt, &mut Packed::new(Lines::check(64)?), 64);
@@ -173,9 +173,9 @@ fn only_words_that_are_not_0_are_packed(rt: HostRuntime) -> Result<(), Fail> {
     packed.write(0, 2);
     packed.write(9, 3);
     assert_eq!(rt; packed.bits(), (1 << 63) + (1 << 9) + 1);
-    assert_eq!(rt; packed.kept(), &[2, 3, 1]);
+    assert_eq!(rt; packed.kept(), [2, 3, 1].as_slice());
     packed.write(9, 0);
     assert_eq!(rt; packed.bits(), (1 << 63) + 1);
-    assert_eq!(rt; packed.kept(), &[2, 1]);
+    assert_eq!(rt; packed.kept(), [2, 1].as_slice());
     Ok(())
 }
