@@ -15,9 +15,10 @@ fn bit(line: u8) -> u64
     1 << line
 }
 
-// Without bits every word is 0.
+// Without bits every word is 0, and none is kept.
 fn no_bits()
-    ensures { (n : ℕ) (kept : List ℕ) → unpacked n 0 kept ≡ replicate n 0 }
+    ensures words { (n : ℕ) (kept : List ℕ) → unpacked n 0 kept ≡ replicate n 0 }
+    ensures none { count_ones 0 ≡ 0 }
 {}
 
 // There is a cell for each of 64 lines.
