@@ -1,30 +1,29 @@
 -- A core that stays ready is granted within the wait.
-use Rattle.std.proofs.Common.{◌≡◌, ℕ, zero, suc, ◌+◌, ◌-◌, ◌<◌, ◌≤◌, true, false, ◌⊎◌, List, [], ◌∷◌, length, Some, None, Option, refl, ap, inl, inr, arith}
-use Rattle.std.proofs.lemmas.Bool.{both_ways, cases_eq, eq-eqb}
+use Rattle.std.proofs.Common.{◌≡◌, ℕ, zero, suc, ◌≢◌, ◌+◌, ◌-◌, ◌<◌, ◌≤◌, false, ◌⊎◌, List, [], ◌∷◌, length, Some, None, Option, refl, ap, inl, inr, arith}
+use Rattle.std.proofs.lemmas.Bool.{cases_eq, eq-eqb, ne_eqb}
 use Rattle.arbiter.specs.Granting.{BoundedWaiting, grants}
 use Rattle.arbiter.specs.Waiting.{StaysReady, GrantedWithin, Fair, grants_until, is_granted}
 
-pub granted_or_not : (o : Option ℕ) (core : ℕ) → (o ≡ Some core) ⊎ (o ≡ Some core → ⊥)
+granted_or_not : (o : Option ℕ) (core : ℕ) → (o ≡ Some core) ⊎ (o ≢ Some core)
 granted_or_not (Some g) core =
     elim (cases_eq g core) [
       | inl same ↦ inl (ap Some same)
       | inr ne ↦ inr (λ e. ne cc)
     ]
-granted_or_not None core = inr (λ e. let z : ◌≡◌ {A = ℕ} 0 1 = cc in omega arith)
+granted_or_not None core = inr (λ e. cc)
 
 -- ---- grants until a core's own
 
+not_granted : (o : Option ℕ) (core : ℕ) → (o ≢ Some core) → is_granted o core ≡ false
+not_granted (Some g) core ne = ne_eqb g core (λ same. ne (ap Some same))
+not_granted None core ne = refl
+
 module _ {A : Type 0} (picks : A → ℕ → Option ℕ) (moves : A → ℕ → A) (ready core : ℕ) where
-  pub until_granted : (limit count : ℕ) (a : A) → 0 < limit → is_granted (picks a ready) core ≡ true → grants_until picks moves ready core limit count a ≡ (Some (count + 1), moves a ready)
-  until_granted zero count a h t = absurd (omega arith)
-  until_granted (suc limit) count a h t = rw t
+  pub until_granted : (all passed : ℕ) (a : A) → passed < all → picks a ready ≡ Some core → grants_until picks moves ready core (all - passed) passed a ≡ (Some (passed + 1), moves a ready)
+  until_granted all passed a h e = let one : all - passed ≡ suc (all - (passed + 1)) = omega arith in rw (one, e, eq-eqb core core refl)
 
-  pub until_passed : (limit count : ℕ) (a : A) → 0 < limit → is_granted (picks a ready) core ≡ false → grants_until picks moves ready core limit count a ≡ grants_until picks moves ready core (limit - 1) (count + 1) (moves a ready)
-  until_passed zero count a h t = absurd (omega arith)
-  until_passed (suc limit) count a h t = let e : suc limit - 1 ≡ limit = omega arith in rw (t, e)
-
-pub not_granted : (o : Option ℕ) (core : ℕ) → is_granted o core ≡ false → o ≡ Some core → ⊥
-not_granted o core t e = both_ways (is_granted o core) t (rw e (eq-eqb core core refl))
+  pub until_passed : (all passed : ℕ) (a : A) → passed < all → (picks a ready ≢ Some core) → grants_until picks moves ready core (all - passed) passed a ≡ grants_until picks moves ready core (all - (passed + 1)) (passed + 1) (moves a ready)
+  until_passed all passed a h ne = let one : all - passed ≡ suc (all - (passed + 1)) = omega arith in rw (one, not_granted (picks a ready) core ne)
 
 -- ---- the theorem
 

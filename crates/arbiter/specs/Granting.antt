@@ -30,3 +30,7 @@ pub record BoundedWaiting {A : Type 0} (core_count wait : A → ℕ) (distance :
 abbrev pub grants : {A : Type 0} → (A → ℕ → Option ℕ) → (A → ℕ → A) → A → List ℕ → List (Option ℕ)
 grants picks moves a [] = []
 grants picks moves a (ready ∷ later) = picks a ready ∷ grants picks moves (moves a ready) later
+
+-- from here on, whatever cores are ready at the grants, the answers are in this order
+abbrev pub InOrder : {A : Type 0} → (A → ℕ → Option ℕ) → (A → ℕ → A) → A → (List ℕ → List (Option ℕ)) → Type 0
+InOrder picks moves a order = (readies : List ℕ) → grants picks moves a readies ≡ order readies

@@ -1,8 +1,8 @@
 -- Steps round the cores, and what a scan of the cores finds.
-use Rattle.std.specs.Prelude.{◌≡◌, ℕ, zero, suc, ◌+◌, ◌-◌, ◌%◌, ◌<◌, ◌≤◌, true, false, cond, Some, None, ◌≢◌, nat_le}
-use Rattle.std.proofs.Common.{ap, ◌∙◌, inl, inr, mod-eq_of_lt, mod-lt, arith}
+use Rattle.std.specs.Prelude.{◌≡◌, ℕ, zero, suc, ◌+◌, ◌-◌, ◌%◌, ◌<◌, true, false, cond, Some, None, ◌≢◌, nat_le}
+use Rattle.std.proofs.Common.{sym, ap, ◌∙◌, inl, inr, mod-eq_of_lt, mod-lt, arith}
 use Rattle.std.proofs.Math.Nat.{add-mod_right}
-use Rattle.std.proofs.lemmas.Bool.{cases_Bool, cases_eq, cases_order, both_ways, leb-true, leb-false}
+use Rattle.std.proofs.lemmas.Bool.{cases_Bool, cases_eq, cases_order, both_ways}
 use Rattle.std.proofs.lemmas.Bool.Decides.{nat_tests}
 use Rattle.arbiter.specs.Granting.{ready_at}
 use Rattle.arbiter.specs.Rounds.{after, steps, scan, own_ready}
@@ -13,17 +13,9 @@ use Rattle.arbiter.specs.Turns.{after_is_core}
 -- by whether the way leads past the last core
 pub steps_by_way : (n from core : ℕ) → from < n → core < n → steps n from core ≡ cond (nat_le from core) (core - from) (core + n - from)
 steps_by_way n from core h k =
-    elim (cases_Bool (nat_le from core)) [
-      | inl t ↦
-          let on : from ≤ core = leb-true from core t in
-          let split : core + n - from ≡ (core - from) + n = omega arith in
-          let short : core - from < n = omega arith in
-          rw t (ap (λ (x : ℕ). x % n) split ∙ add-mod_right (core - from) n ∙ mod-eq_of_lt short)
-      | inr t ↦
-          let back : core < from = leb-false from core t in
-          let short : core + n - from < n = omega arith in
-          rw t (mod-eq_of_lt short)
-    ]
+    let round : core - from + n ≡ core + n - from → (core + n - from) % n ≡ core - from = λ e. ap (λ (x : ℕ). x % n) (sym e) ∙ add-mod_right (core - from) n ∙ mod-eq_of_lt (omega arith) in
+    let short : core + n - from < n → (core + n - from) % n ≡ core + n - from = mod-eq_of_lt in
+    grind (arith, nat_tests)
 
 pub steps_below : (n from core : ℕ) → from < n → core < n → steps n from core < n
 steps_below n from core h k = mod-lt (core + n - from) (omega arith)
@@ -70,7 +62,7 @@ pub record Found (n ready from g : ℕ) : Type 0 where
 
 module _ (n ready : ℕ) where
   pub scan_found : (k from g : ℕ) → from < n → scan n ready from k ≡ Some g → Found n ready from g
-  scan_found zero from g h e = let z : ◌≡◌ {A = ℕ} 0 1 = cc in absurd (omega arith)
+  scan_found zero from g h e = cc
   scan_found (suc k) from g h e =
       elim (cases_Bool (ready_at ready from)) [
         | inl t ↦
@@ -99,7 +91,7 @@ module _ (n ready : ℕ) where
   scan_none zero from core h l e near = absurd (omega arith)
   scan_none (suc k) from core h l e near =
       elim (cases_Bool (ready_at ready from)) [
-        | inl t ↦ let z : ◌≡◌ {A = ℕ} 0 1 = let f = rw t at e in cc in absurd (omega arith)
+        | inl t ↦ let f = rw t at e in cc
         | inr t ↦
             elim (cases_eq core from) [
               | inl same ↦ rw same t
@@ -108,11 +100,7 @@ module _ (n ready : ℕ) where
       ]
 
 pub own_found : (ready own g : ℕ) → own_ready ready own ≡ Some g → (g ≡ own) × (ready_at ready g ≡ true)
-own_found ready own g e =
-    elim (cases_Bool (ready_at ready own)) [
-      | inl t ↦ let same : g ≡ own = let f = rw t at e in cc in (same, rw same t)
-      | inr t ↦ let z : ◌≡◌ {A = ℕ} 0 1 = let f = rw t at e in cc in absurd (omega arith)
-    ]
+own_found ready own g e = grind (arith, nat_tests)
 
 pub own_here : (ready own : ℕ) → ready_at ready own ≡ true → own_ready ready own ≡ Some own
 own_here ready own t = rw t

@@ -1,12 +1,13 @@
--- The turn that goes round the cores: who is ready first, and how it passes.
-use Rattle.std.specs.Prelude.{ℕ, ◌+◌, ◌-◌, ◌<◌, ◌≤◌, Some, None, Option, nat_lt}
+-- The turn that goes round the cores: who is ready first, how it passes, and what a rule of turns keeps.
+use Rattle.std.specs.Prelude.{◌≡◌, ℕ, ◌%◌, ◌^◌, ◌<◌, ◌≤◌, true, List, Some, None, Option, ◌≢◌}
 use Rattle.std.proofs.Common.{arith}
-use Rattle.std.proofs.lemmas.Bool.{cond_both, ltb-true}
+use Rattle.std.proofs.lemmas.Bool.Decides.{nat_tests}
 use Rattle.arbiter.specs.declared.turn.Turn.{Turn}
+use Rattle.arbiter.specs.Granting.{InOrder, ready_at}
 use Rattle.arbiter.specs.Rounds.{after, first_ready, own_ready, steps}
 
 pub after_is_core : (n core : ℕ) → 1 ≤ n → after n core < n
-after_is_core n core some = cond_both (nat_lt core (n - 1)) (core + 1) 0 (λ x. x < n) (λ e. omega (arith, ltb-true core (n - 1) e)) (λ _. some)
+after_is_core n core some = grind (arith, nat_tests)
 
 -- the turn of the core after this one
 abbrev pub turn_after : Turn → ℕ → Turn
@@ -15,6 +16,10 @@ turn_after t core = record { cores = t.cores; core = after t.cores.count core; w
 -- a slot passes to the next core
 abbrev pub slot_passed : Turn → Turn
 slot_passed t = turn_after t t.core
+
+-- .. whoever was picked
+abbrev pub slot_passes : Turn → Option ℕ → Turn
+slot_passes t picked = slot_passed t
 
 -- the turn passes to the core after the granted one, or stays
 abbrev pub grant_passed : Turn → Option ℕ → Turn
@@ -32,3 +37,17 @@ own_of t ready = own_ready ready t.core
 -- how many turns it is to a core's own
 abbrev pub turns_to : Turn → ℕ → ℕ
 turns_to t core = steps t.cores.count t.core core
+
+-- what a rule keeps that picks a core at each turn and then passes the turn
+pub record TurnLaw (picks : Turn → ℕ → Option ℕ) (passes : Turn → Option ℕ → Turn) (order : ℕ → List ℕ → List (Option ℕ)) : Type 0 where
+  -- bits from N up count for nothing
+  pub picks_by_cores : (t : Turn) (ready : ℕ) → picks t (ready % 2 ^ t.cores.count) ≡ picks t ready
+  -- a picked core is one of the N, and ready
+  pub picked_is_core : (t : Turn) (ready core : ℕ) → picks t ready ≡ Some core → core < t.cores.count
+  pub picked_is_ready : (t : Turn) (ready core : ℕ) → picks t ready ≡ Some core → ready_at ready core ≡ true
+  -- N never changes
+  pub cores_stay : (t : Turn) (picked : Option ℕ) → (passes t picked).cores ≡ t.cores
+  -- a ready core that is not picked is fewer turns from its own afterwards
+  pub passed_over_is_closer : (t : Turn) (ready core : ℕ) → core < t.cores.count → ready_at ready core ≡ true → (picks t ready ≢ Some core) → turns_to (passes t (picks t ready)) core < turns_to t core
+  -- from core 0's turn on the answers are in the rule's order
+  pub in_order : (t : Turn) → t.core ≡ 0 → InOrder picks (λ u ready. passes u (picks u ready)) t (order t.cores.count)

@@ -1,42 +1,32 @@
-ghost use Rattle.arbiter.specs.Shipped.{fixed_slots_picks, fixed_slots_moves};
-ghost use Rattle.arbiter.specs.Turns.{turns_to};
-ghost use Rattle.std.specs.Prelude.{refl};
-ghost use Rattle.arbiter.specs.Laws.{bounded, fixed_slots_granted};
-ghost use Rattle.arbiter.specs.Masks.{own_by_cores};
+ghost use Rattle.arbiter.specs.Rounds.{fixed_slots_grants};
+ghost use Rattle.arbiter.specs.Turns.{own_of, slot_passes};
+ghost use Rattle.arbiter.specs.Laws.{fixed_slots_law};
 
-use crate::Arbiter;
+use crate::by_turn::{ByTurn, TurnRule};
 use crate::turn::Turn;
+
+// Nobody but the slot's core is granted.
+#[derive(Clone, Copy)]
+pub struct SlotOnly;
 
 // Fixed slots: slot s, from 0, belongs to core s mod N, and only that core is granted, if it is ready. Every grant is a
 // slot. The wait is N.
-#[derive(Clone, Copy)]
-pub struct FixedSlots {
-    pub(crate) turn: Turn,
-}
+pub type FixedSlots = ByTurn<SlotOnly>;
 
-impl Arbiter for FixedSlots {
-    ghost core_count = { λ a. a.turn.cores.count };
+impl TurnRule for SlotOnly {
+    ghost picks = { own_of };
 
-    ghost wait = { λ a. a.turn.cores.count };
+    ghost passes = { slot_passes };
 
-    ghost distance = { λ a core. turns_to a.turn core };
+    ghost order = { λ n. fixed_slots_grants n 0 };
 
-    ghost picks = { fixed_slots_picks };
+    ghost turn_law = { fixed_slots_law };
 
-    ghost moves = { fixed_slots_moves };
-
-    ghost bounded_waiting = { bounded (λ a. a.turn) fixed_slots_picks fixed_slots_moves
-        (λ a. fixed_slots_granted a.turn)
-        (λ a. own_by_cores a.turn)
-        (λ a ready. refl) };
-
-    fn cores(&self) -> u8 {
-        self.turn.cores()
+    fn pick(turn: Turn, ready: u8) -> Option<u8> {
+        turn.own(ready)
     }
 
-    fn grant(&mut self, ready: u8) -> Option<u8> {
-        let granted = self.turn.own(ready);
-        self.turn = self.turn.passed();
-        granted
+    fn pass(turn: Turn, _picked: Option<u8>) -> Turn {
+        turn.passed()
     }
 }

@@ -3,16 +3,17 @@
 ghost use Rattle.std.specs.Prelude.{◌≡◌, ℕ, Option};
 ghost use Rattle.arbiter.specs.Granting.{BoundedWaiting};
 
+mod by_turn;
 mod fixed_slots;
-mod makings;
-mod ready;
 mod round_robin;
+mod shipped;
 mod turn;
 mod waiting;
 mod work_conserving;
 
 pub use fixed_slots::FixedSlots;
 pub use round_robin::RoundRobin;
+pub use shipped::shipped_arbiters;
 pub use waiting::grants_until;
 pub use work_conserving::WorkConserving;
 

@@ -1,42 +1,32 @@
-ghost use Rattle.arbiter.specs.Shipped.{work_conserving_picks, work_conserving_moves};
-ghost use Rattle.arbiter.specs.Turns.{turns_to};
-ghost use Rattle.std.specs.Prelude.{refl};
-ghost use Rattle.arbiter.specs.Laws.{bounded, work_conserving_granted};
-ghost use Rattle.arbiter.specs.Masks.{first_by_cores};
+ghost use Rattle.arbiter.specs.Rounds.{work_conserving_grants};
+ghost use Rattle.arbiter.specs.Turns.{first_of, slot_passes};
+ghost use Rattle.arbiter.specs.Laws.{work_conserving_law};
 
-use crate::Arbiter;
+use crate::by_turn::{ByTurn, TurnRule};
 use crate::turn::Turn;
+
+// The slot's core comes first, and the next ready core where that is not ready.
+#[derive(Clone, Copy)]
+pub struct FirstFromSlot;
 
 // Work-conserving slots: slot s, from 0, belongs to core s mod N, and if that core is not ready, the next ready core in
 // rising order is granted, core 0 following N − 1. Every grant is a slot. The wait is N.
-#[derive(Clone, Copy)]
-pub struct WorkConserving {
-    pub(crate) turn: Turn,
-}
+pub type WorkConserving = ByTurn<FirstFromSlot>;
 
-impl Arbiter for WorkConserving {
-    ghost core_count = { λ a. a.turn.cores.count };
+impl TurnRule for FirstFromSlot {
+    ghost picks = { first_of };
 
-    ghost wait = { λ a. a.turn.cores.count };
+    ghost passes = { slot_passes };
 
-    ghost distance = { λ a core. turns_to a.turn core };
+    ghost order = { λ n. work_conserving_grants n 0 };
 
-    ghost picks = { work_conserving_picks };
+    ghost turn_law = { work_conserving_law };
 
-    ghost moves = { work_conserving_moves };
-
-    ghost bounded_waiting = { bounded (λ a. a.turn) work_conserving_picks work_conserving_moves
-        (λ a. work_conserving_granted a.turn)
-        (λ a. first_by_cores a.turn)
-        (λ a ready. refl) };
-
-    fn cores(&self) -> u8 {
-        self.turn.cores()
+    fn pick(turn: Turn, ready: u8) -> Option<u8> {
+        turn.first(ready)
     }
 
-    fn grant(&mut self, ready: u8) -> Option<u8> {
-        let granted = self.turn.first(ready);
-        self.turn = self.turn.passed();
-        granted
+    fn pass(turn: Turn, _picked: Option<u8>) -> Turn {
+        turn.passed()
     }
 }

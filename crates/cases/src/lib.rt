@@ -4,22 +4,12 @@ ghost use Rattle.std.specs.Prelude.{◌≡◌, ◌+◌};
 ghost use Rattle.cases.specs.Format.{FormatCases, format_count};
 ghost use Rattle.cases.specs.Parts.{PartCases, part_count};
 
-fn formats_hold()
-    ensures { FormatCases }
-{}
-
-fn parts_hold()
-    ensures { PartCases }
-{}
-
 // The rules answer every worked case as it is listed. It answers how many there are.
 pub fn worked_cases() -> usize
     ensures formats { FormatCases }
     ensures parts { PartCases }
     ensures count { result ≡ format_count + part_count }
 {
-    formats_hold();
-    parts_hold();
     79
 }
 

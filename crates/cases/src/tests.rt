@@ -1,7 +1,7 @@
 // Many of the worked cases through the code, and what else the calls do on small inputs.
 use listing::listing;
 use model::{Cores, Kind};
-use refusal::Reason;
+use refusal::{Reason, Refusal};
 use std::process::Abort;
 use std::test::Fail;
 use trace::{Draft, Record, Span, TraceReader, check_bundle, check_trace, write_record};
@@ -12,30 +12,10 @@ const BUNDLE: [u8; 32] = [
     0x0f, 0x00, 0x08, 0x02, 0x00, 0x00, 0x00, 0x05, 0x01, 0x0e, 0x01, 0x00, 0x00, 0x00, 0x09, 0x01,
 ];
 
-fn trace_refused(rt: &impl Abort, bytes: &[u8], number: u8, place: usize) -> Result<(), Fail> {
-    match check_trace(bytes) {
-        Ok(_) => Err(Fail::new("the trace is taken")),
-        Err(refusal) => {
-            assert_eq!(rt; (refusal.reason.number(), refusal.place), (number, place));
-            Ok(())
-        },
-    }
-}
-
-fn bundle_refused(
-    rt: &impl Abort,
-    bytes: &[u8],
-    cores: u32,
-    number: u8,
-    place: usize,
-) -> Result<(), Fail> {
-    match check_bundle(bytes, Cores::check(cores)?) {
-        Ok(_) => Err(Fail::new("the bundle is taken")),
-        Err(refusal) => {
-            assert_eq!(rt; (refusal.reason.number(), refusal.place), (number, place));
-            Ok(())
-        },
-    }
+// The answer is the refusal of this number and place.
+fn refused<T: Drop>(rt: &impl Abort, answer: Result<T, Refusal>, number: u8, place: usize) {
+    let refusal = answer.err().map(|f| (u8::from(f.reason), f.place));
+    assert_eq!(rt; refusal, Some((number, place)));
 }
 
 fn listed(rt: &(impl Abort + AllocGlobal), bytes: &[u8], text: &str) -> Result<(), Fail> {
@@ -45,40 +25,57 @@ fn listed(rt: &(impl Abort + AllocGlobal), bytes: &[u8], text: &str) -> Result<(
 }
 
 #[test]
-fn faulty_traces(rt: HostRuntime) -> Result<(), Fail> {
-    trace_refused(&rt, &[0x01, 0x00, 0x00], 14, 0)?;
-    trace_refused(&rt, &[0x10], 11, 0)?;
-    trace_refused(&rt, &[0x08], 12, 0)?;
-    trace_refused(&rt, &[0x08, 0x00], 13, 0)?;
-    trace_refused(&rt, &[0x09, 0x00, 0x00, 0x07], 13, 0)?;
-    trace_refused(&rt, &[0x09, 0x00, 0x00], 12, 0)?;
-    trace_refused(&rt, &[0x19, 0x00, 0x00], 11, 0)?;
-    trace_refused(&rt, &[0x02, 0x00], 14, 0)?;
-    trace_refused(&rt, &[0x0c, 0x00, 0x00, 0x00, 0x00, 0x05], 13, 0)?;
-    trace_refused(&rt, &[0x04, 0x00, 0x00, 0x00, 0x05], 14, 0)?;
-    trace_refused(&rt, &[0x0c, 0x00, 0x00, 0x00, 0x05, 0x02], 14, 0)?;
-    trace_refused(&rt, &[0x00, 0x00, 0x10], 11, 2)
+fn faulty_traces(rt: HostRuntime) {
+    refused(&rt, check_trace(&[0x01, 0x00, 0x00]), 14, 0);
+    refused(&rt, check_trace(&[0x10]), 11, 0);
+    refused(&rt, check_trace(&[0x08]), 12, 0);
+    refused(&rt, check_trace(&[0x08, 0x00]), 13, 0);
+    refused(&rt, check_trace(&[0x09, 0x00, 0x00, 0x07]), 13, 0);
+    refused(&rt, check_trace(&[0x09, 0x00, 0x00]), 12, 0);
+    refused(&rt, check_trace(&[0x19, 0x00, 0x00]), 11, 0);
+    refused(&rt, check_trace(&[0x02, 0x00]), 14, 0);
+    refused(
+        &rt,
+        check_trace(&[0x0c, 0x00, 0x00, 0x00, 0x00, 0x05]),
+        13,
+        0,
+    );
+    refused(&rt, check_trace(&[0x04, 0x00, 0x00, 0x00, 0x05]), 14, 0);
+    refused(
+        &rt,
+        check_trace(&[0x0c, 0x00, 0x00, 0x00, 0x05, 0x02]),
+        14,
+        0,
+    );
+    refused(&rt, check_trace(&[0x00, 0x00, 0x10]), 11, 2);
 }
 
 #[test]
 fn faulty_bundles(rt: HostRuntime) -> Result<(), Fail> {
-    bundle_refused(&rt, &[], 2, 12, 0)?;
-    bundle_refused(&rt, &[0x04], 2, 11, 0)?;
-    bundle_refused(&rt, &[0x01, 0x00], 1, 12, 1)?;
-    bundle_refused(&rt, &[0x01, 0x00, 0x05, 0x10], 1, 12, 1)?;
-    bundle_refused(
+    let one = Cores::try_from(1)?;
+    let two = Cores::try_from(2)?;
+    refused(&rt, check_bundle(&[], two), 12, 0);
+    refused(&rt, check_bundle(&[0x04], two), 11, 0);
+    refused(&rt, check_bundle(&[0x01, 0x00], one), 12, 1);
+    refused(&rt, check_bundle(&[0x01, 0x00, 0x05, 0x10], one), 12, 1);
+    refused(
         &rt,
-        &[0x03, 0x00, 0x01, 0x08, 0x00, 0x02, 0x08, 0x01],
-        2,
+        check_bundle(&[0x03, 0x00, 0x01, 0x08, 0x00, 0x02, 0x08, 0x01], two),
         12,
         3,
-    )?;
-    bundle_refused(&rt, &[0x01, 0x00, 0x01, 0x00, 0xff], 1, 15, 4)
+    );
+    refused(
+        &rt,
+        check_bundle(&[0x01, 0x00, 0x01, 0x00, 0xff], one),
+        15,
+        4,
+    );
+    Ok(())
 }
 
 #[test]
 fn a_bundle_is_read(rt: HostRuntime) -> Result<(), Fail> {
-    let bundle = check_bundle(&BUNDLE, Cores::check(2)?)?;
+    let bundle = check_bundle(&BUNDLE, Cores::try_from(2)?)?;
     let first = Span {
         start: 3,
         end: 14,

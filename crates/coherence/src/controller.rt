@@ -1,5 +1,5 @@
 // The cache controller, for one line of one core.
-ghost use Rattle.std.specs.Prelude.{◌≡◌, true, is_some};
+ghost use Rattle.std.specs.Prelude.{◌≡◌};
 ghost use Rattle.coherence.specs.declared.states.Event.TheVariants.{Data};
 ghost use Rattle.coherence.specs.Moves.{next};
 ghost use Rattle.coherence.specs.Records.{with_state, moved, received};
@@ -18,18 +18,20 @@ pub struct LineRecord {
 }
 
 impl LineRecord {
-    // Enters a state, since the event was met.
-    fn enter(&mut self, state: LineState) -> bool
-        ensures met { result ≡ true }
+    // Enters a state, and answers it.
+    fn enter(&mut self, state: LineState) -> Option<LineState>
+        ensures state { result ≡ Some state }
         ensures record { self.new ≡ with_state state self.old }
     {
         self.state = state;
-        true
+        Some(state)
     }
 
-    // The line meets an event. False, and nothing changes, where no line in its state ever does.
-    pub fn handle(&mut self, event: Event) -> bool
-        ensures met { result ≡ is_some (next self.old.state event) }
+    // The line meets an event, and answers its next state. None, and nothing changes, where no line in its state ever meets
+    // the event.
+    // Stays a match on state and event, in place: a form that the project fixes.
+    pub fn handle(&mut self, event: Event) -> Option<LineState>
+        ensures next { result ≡ next self.old.state event }
         ensures record { self.new ≡ moved event self.old }
     {
         match (self.state, event) {
@@ -65,26 +67,24 @@ impl LineRecord {
             (MIa, Other(GetM)) => self.enter(IIa),
 
             // every other message of another core leaves the line as it is
-            (_, Other(_)) => true,
+            (_, Other(_)) => Some(self.state),
 
             // data arrives
             (ISd | IMdS | SMdS, Data) => self.enter(S),
             (IMd | SMd, Data) => self.enter(M),
             (ISdI | IMdI | IMdSI | SMdI | SMdSI, Data) => self.enter(I),
 
-            _ => false,
+            _ => None,
         }
     }
 
-    // Data arrives: the line moves, and its place gets this word. False, and nothing changes, where it awaits none.
-    pub fn receive(&mut self, word: u32) -> bool
-        ensures met { result ≡ is_some (next self.old.state Data) }
+    // Data arrives: the line moves, and its place gets this word. None, and nothing changes, where it awaits none.
+    pub fn receive(&mut self, word: u32) -> Option<LineState>
+        ensures next { result ≡ next self.old.state Data }
         ensures record { self.new ≡ received word self.old }
     {
-        if !self.handle(Data) {
-            return false;
-        }
+        let state = self.handle(Data)?;
         self.word = word;
-        true
+        Some(state)
     }
 }

@@ -55,34 +55,34 @@ impl fmt::Display for LineState {
     ghost output = { λ s. Some (state_name s) };
 
     fn fmt<W: fmt::Write>(&self, f: &mut fmt::Formatter<W>) -> fmt::Result {
-        match *self {
-            I => write!(f, "I"),
-            S => write!(f, "S"),
-            M => write!(f, "M"),
-            ISad => write!(f, "ISad"),
-            ISd => write!(f, "ISd"),
-            IMad => write!(f, "IMad"),
-            IMd => write!(f, "IMd"),
-            IMdS => write!(f, "IMdS"),
-            SMad => write!(f, "SMad"),
-            SMd => write!(f, "SMd"),
-            SMdS => write!(f, "SMdS"),
-            ISdI => write!(f, "ISdI"),
-            IMdI => write!(f, "IMdI"),
-            IMdSI => write!(f, "IMdSI"),
-            SMdI => write!(f, "SMdI"),
-            SMdSI => write!(f, "SMdSI"),
-            MIa => write!(f, "MIa"),
-            IIa => write!(f, "IIa"),
-        }
+        f.write_str(match self {
+            I => "I",
+            S => "S",
+            M => "M",
+            ISad => "ISad",
+            ISd => "ISd",
+            IMad => "IMad",
+            IMd => "IMd",
+            IMdS => "IMdS",
+            SMad => "SMad",
+            SMd => "SMd",
+            SMdS => "SMdS",
+            ISdI => "ISdI",
+            IMdI => "IMdI",
+            IMdSI => "IMdSI",
+            SMdI => "SMdI",
+            SMdSI => "SMdSI",
+            MIa => "MIa",
+            IIa => "IIa",
+        })
     }
 }
 
-impl Message {
-    // The message of an access that waits.
-    pub fn of(kind: Kind) -> Message
-        ensures { result ≡ message_of kind }
-    {
+// The message of an access that waits.
+impl From<Kind> for Message {
+    ghost from_gives = { λ kind message. message ≡ message_of kind };
+
+    fn from(kind: Kind) -> Message {
         match kind {
             Kind::Load => Message::GetS,
             Kind::Store => Message::GetM,

@@ -1,7 +1,7 @@
 #![tactic(auto)]
 // What the programs read from standard input: five settings, one byte each, and a bundle of traces.
 ghost use Rattle.std.specs.Prelude.{◌≡◌, ◌+◌, drop, IfOk};
-ghost use Rattle.trace.specs.Bundle.{bundle_of, AllReadable};
+ghost use Rattle.trace.specs.Bundle.{AllReadable};
 ghost use Rattle.input.specs.Inputs.{size_limit, width_or, settings_of, input_of, plain_settings, plain_input};
 
 use model::{ArbiterChoice, Cores, Path};
@@ -40,45 +40,30 @@ fn width_or(given: u8, default: u8) -> u8
     if given == 0 { default } else { given }
 }
 
-// The bytes from a place on.
-fn rest_from(bytes: &[u8], at: usize) -> &[u8]
-    ensures { result.now ≡ drop at bytes.now }
-{
-    if at < bytes.len() { &bytes[at..] } else { &[] }
-}
-
 // The bundle of an input: what follows the five settings.
 pub fn bundle_part(bytes: &[u8]) -> &[u8]
     ensures { result.now ≡ drop 5 bytes.now }
 {
-    rest_from(bytes, 5)
+    bytes.get(5..).unwrap_or(&[])
 }
 
 // Checks the size of an input, and then the number of cores, the path and the arbiter. Widths have no fault.
 pub fn check_settings(bytes: &[u8]) -> Result<Settings, Refusal>
     ensures { plain_settings result ≡ settings_of bytes.now }
 {
-    if bytes.len() < 5 || bytes.len() > 65_536 {
+    let &[cores, slot_width, service_width, path, arbiter, ..] = bytes else {
+        return Err(Reason::InputSize.at(0));
+    };
+    if bytes.len() > 65_536 {
         return Err(Reason::InputSize.at(0));
     }
-    let cores = Cores::check(bytes[0] as u32)?;
-    let path = Path::check(bytes[3])?;
-    let arbiter = ArbiterChoice::check(bytes[4])?;
     Ok(Settings {
-        cores,
-        slot_width: width_or(bytes[1], 4),
-        service_width: width_or(bytes[2], 50),
-        path,
-        arbiter,
+        cores: Cores::try_from(u32::from(cores))?,
+        slot_width: width_or(slot_width, 4),
+        service_width: width_or(service_width, 50),
+        path: Path::try_from(path)?,
+        arbiter: ArbiterChoice::try_from(arbiter)?,
     })
-}
-
-// Checks the bundle of an input.
-fn check_part(bytes: &[u8], cores: Cores) -> Result<Bundle, Refusal>
-    ensures value { result ≡ bundle_of (drop 5 bytes.now) cores.count }
-    ensures readable { IfOk result (AllReadable (drop 5 bytes.now)) }
-{
-    check_bundle(bundle_part(bytes), cores)
 }
 
 // Checks an input whole: the settings, and then the bundle, whose places do not count the settings. Every trace of
@@ -88,6 +73,6 @@ pub fn check_input(bytes: &[u8]) -> Result<Input, Refusal>
     ensures readable { IfOk result (λ i. AllReadable (drop 5 bytes.now) i.bundle) }
 {
     let settings = check_settings(bytes)?;
-    let bundle = check_part(bytes, settings.cores)?;
+    let bundle = check_bundle(bundle_part(bytes), settings.cores)?;
     Ok(Input { settings, bundle })
 }

@@ -9,7 +9,7 @@ use Rattle.trace.specs.declared.bundle.Bundle.{Bundle}
 use Rattle.trace.specs.Bundle.{no_trace}
 use Rattle.trace.specs.Whole.{records_in}
 use Rattle.input.specs.Inputs.{Plain, input_of}
-use Rattle.listing.specs.declared.Row.{Row}
+use Rattle.listing.specs.declared.row.Row.{Row}
 
 abbrev pub head : List ℕ
 head = codes "core,index,gap,kind,line,word\n"
@@ -24,13 +24,17 @@ abbrev pub rows_text : ℕ → ℕ → List Record → List ℕ
 rows_text core index [] = []
 rows_text core index (r ∷ rs) = row_text (record { core = core; index = index; access = r }) ++ rows_text core (index + 1) rs
 
+-- the records of a core's trace, or the first fault among them
+abbrev pub read : List ℕ → Span → Result (List Record) Refusal
+read bytes s = records_in bytes s.start s.end 0
+
 -- the records of a trace that was checked
 abbrev pub records_of : Result (List Record) Refusal → List Record
 records_of (Ok rs) = rs
 records_of (Err f) = []
 
 abbrev pub trace_text : List ℕ → ℕ → Span → List ℕ
-trace_text bytes core s = rows_text core 0 (records_of (records_in bytes s.start s.end 0))
+trace_text bytes core s = rows_text core 0 (records_of (read bytes s))
 
 -- core, records and bytes
 abbrev pub total_text : ℕ → Span → List ℕ

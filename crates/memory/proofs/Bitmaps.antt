@@ -1,114 +1,113 @@
--- A bit added above all others, and the words that there are then.
-use Rattle.std.proofs.Common.{◌≡◌, ℕ, suc, ◌+◌, ◌-◌, ◌*◌, ◌/◌, ◌%◌, ◌^◌, ◌<◌, ◌≤◌, true, List, length, get_or, set, replicate, sym, refl, ap, ◌∙◌, inl, inr, add_comm, pow-suc, arith, length-set, pow_pos, pow_mono, pow-add}
-use native.Mathlib.Nat.{add-mul-div_right, add-mul-mod_self_right, div-eq_of_lt}
-use lib.Count.{ones, ones_cat, ones_step}
-use lib.ListN.{length-replicate, get_or-replicate}
-use lib.Pow.{high, low, split}
-use Rattle.std.proofs.lemmas.Nat.{mod_below}
-use Rattle.std.proofs.lemmas.List.FromFn.{length-map-range_with_len, get_or-map-range_with_len}
-use Rattle.std.proofs.lemmas.List.{ext_get_or, get_or-set_same, get_or-set_other}
-use Rattle.std.proofs.lemmas.Bool.{cases_order, cases_Bool, eqb-true}
+-- Words behind a bit map: reading them, and packing them line by line.
+use Rattle.std.proofs.Common.{◌≡◌, ℕ, bit_or, ◌+◌, ◌-◌, ◌*◌, ◌/◌, ◌%◌, ◌^◌, ◌<◌, ◌≤◌, true, List, [], ◌∷◌, ◌++◌, length, get_or, set, take, replicate, sym, ap, ap₂, ◌∙◌, inl, inr, arith, pow_pos, length-set}
+use lib.Count.{ones, ones_cat, ones_step, ones-ones}
+use lib.Pow.{split, mod-mod-pow}
+use Rattle.std.proofs.lemmas.Nat.{ones-le, one_shl, or_comm, or_shifted, mod_low, shr_high, mod_below, pow-add}
+use Rattle.std.proofs.lemmas.Nat.Bits.{bit_at_above, bit_at_cat_low}
+use Rattle.std.proofs.lemmas.List.FromFn.{fill_by_all, length-map-range_with_len, get_or-map-range_with_len, map-range_with_len_more}
+use Rattle.std.proofs.lemmas.List.{length-replicate, get_or-replicate, get_or-set_same, get_or-set_other, get_or_past, take_more, take_all}
+use Rattle.std.proofs.lemmas.Grind.{get_or-set_at}
+use Rattle.std.proofs.lemmas.Bool.{cases_lt, eqb-true}
+use Rattle.std.proofs.lemmas.Bool.Decides.{nat_tests}
 use Rattle.model.specs.Bits.{bit_at}
 use Rattle.memory.specs.Packing.{rank, line_word, unpacked}
 
--- ---- a bit added at i
+-- ---- reading
 
-times : (i k : ℕ) → k < i → 2 ^ i ≡ (2 ^ (i - k - 1) * 2) * 2 ^ k
-times i k h =
-    let e : i ≡ suc (i - k - 1) + k = omega arith in
-    ap (λ n. 2 ^ n) e ∙ pow-add 2 (suc (i - k - 1)) k ∙ ap (λ x. x * 2 ^ k) (pow-suc 2 (i - k - 1))
+pub length_unpacked : (n bits : ℕ) (kept : List ℕ) → length (unpacked n bits kept) ≡ n
+length_unpacked n bits kept = length-map-range_with_len (line_word bits kept) 0 n
 
-bit_below : (m i k : ℕ) → k < i → (m + 2 ^ i) / 2 ^ k % 2 ≡ m / 2 ^ k % 2
-bit_below m i k h =
-    let e : (m + 2 ^ i) / 2 ^ k ≡ m / 2 ^ k + 2 ^ (i - k - 1) * 2 = ap (λ x. (m + x) / 2 ^ k) (times i k h) ∙ add-mul-div_right m (2 ^ (i - k - 1) * 2) (pow_pos k) in
-    omega arith
+-- where no bit stands from a line up, its word is 0
+word_none : (n bits : ℕ) (kept : List ℕ) (line : ℕ) → bits < 2 ^ n → n ≤ line → line_word bits kept line ≡ 0
+word_none n bits kept line h past = rw (bit_at_above bits n line h past)
 
-rest_below : (m i k : ℕ) → k < i → (m + 2 ^ i) % 2 ^ k ≡ m % 2 ^ k
-rest_below m i k h = ap (λ x. (m + x) % 2 ^ k) (times i k h) ∙ add-mul-mod_self_right m (2 ^ (i - k - 1) * 2) (2 ^ k)
+-- past the last line too
+pub get_or_unpacked : (n bits : ℕ) (kept : List ℕ) (line : ℕ) → bits < 2 ^ n → get_or (unpacked n bits kept) line 0 ≡ line_word bits kept line
+get_or_unpacked n bits kept line h =
+    elim (cases_lt line n) [
+      | inl there ↦ get_or-map-range_with_len (line_word bits kept) 0 n line line 0 there (omega arith)
+      | inr past ↦ get_or_past (unpacked n bits kept) line 0 (omega (arith, length_unpacked n bits kept)) ∙ sym (word_none n bits kept line h past)
+    ]
 
-as_digit : (m i : ℕ) → m + 2 ^ i ≡ 1 * 2 ^ i + m
-as_digit m i = omega arith
+-- a bit that stands is a line's ..
+pub bit_below : (n bits line : ℕ) → bits < 2 ^ n → bit_at bits line ≡ true → line < n
+bit_below n bits line h t = grind (arith, nat_tests, bit_at_above bits n line h)
 
-bit_own : (m i : ℕ) → m < 2 ^ i → (m + 2 ^ i) / 2 ^ i ≡ 1
-bit_own m i h = ap (λ x. x / 2 ^ i) (as_digit m i) ∙ high 1 i h
+-- .. and is counted
+pub rank_lt : (bits line : ℕ) → bit_at bits line ≡ true → rank bits line < ones bits
+rank_lt bits line t =
+    let b : bits / 2 ^ line % 2 ≡ 1 = eqb-true _ _ t in
+    let e : ones bits ≡ ones (bits / 2 ^ line) + ones (bits % 2 ^ line) = ap ones (sym (split bits line)) ∙ ones_cat line (bits / 2 ^ line) (bits % 2 ^ line) (mod_below bits (2 ^ line) (pow_pos line)) in
+    omega (arith, ones_step (bits / 2 ^ line))
 
-rest_own : (m i : ℕ) → m < 2 ^ i → (m + 2 ^ i) % 2 ^ i ≡ m
-rest_own m i h = ap (λ x. x % 2 ^ i) (as_digit m i) ∙ low 1 i h
+-- for reading a line's word
+pub ruleset reading = (get_or_unpacked, bit_below, rank_lt, ones-le)
+
+-- ---- without bits
 
 pub ones_zero : ones 0 ≡ 0
-unfolding ones
-ones_zero = refl
-
-pub ones_bit : (b : ℕ) → b < 2 → ones b ≡ b
-ones_bit b h =
-    let low : b / 2 ≡ 0 = omega arith in
-    let rest : ones (b / 2) ≡ 0 = ap ones low ∙ ones_zero in
-    ones_step b ∙ omega arith
-
-pub ones_more : (m i : ℕ) → m < 2 ^ i → ones (m + 2 ^ i) ≡ ones m + 1
-ones_more m i h = ap ones (as_digit m i) ∙ ones_cat i 1 m h ∙ ap (λ x. x + ones m) (ones_bit 1 (omega arith)) ∙ add_comm 1 (ones m)
-
-pub below_more_bits : (m i : ℕ) → m < 2 ^ i → m + 2 ^ i < 2 ^ (i + 1)
-below_more_bits m i h = let e : 2 ^ (i + 1) ≡ 2 ^ i * 2 = pow-add 2 i 1 in omega arith
-
--- a bit that stands is counted
-pub rank_lt : (m k : ℕ) → bit_at m k ≡ true → rank m k < ones m
-rank_lt m k t =
-    let b : m / 2 ^ k % 2 ≡ 1 = eqb-true _ _ t in
-    let e : ones m ≡ ones (m / 2 ^ k) + ones (m % 2 ^ k) = ap ones (sym (split m k)) ∙ ones_cat k (m / 2 ^ k) (m % 2 ^ k) (mod_below m (2 ^ k) (pow_pos k)) in
-    let s = ones_step (m / 2 ^ k) in
-    omega arith
-
--- ---- the words
-
-pub word_none : (m : ℕ) (kept : List ℕ) (k : ℕ) → m < 2 ^ k → line_word m kept k ≡ 0
-word_none m kept k h = let e : m / 2 ^ k ≡ 0 = div-eq_of_lt h in rw e
-
-pub length_unpacked : (n m : ℕ) (kept : List ℕ) → length (unpacked n m kept) ≡ n
-length_unpacked n m kept = length-map-range_with_len (line_word m kept) 0 n
-
-pub get_or_unpacked : (n m : ℕ) (kept : List ℕ) (k : ℕ) → k < n → get_or (unpacked n m kept) k 0 ≡ line_word m kept k
-get_or_unpacked n m kept k h = get_or-map-range_with_len (line_word m kept) 0 n k k 0 h (omega arith)
+ones_zero = ones-ones 0
 
 pub unpacked_zero : (n : ℕ) (kept : List ℕ) → unpacked n 0 kept ≡ replicate n 0
-unpacked_zero n kept =
-    ext_get_or 0 _ _ (length_unpacked n 0 kept ∙ sym (length-replicate n 0))
-    (λ k h. let l : k < n = omega (arith, length_unpacked n 0 kept) in get_or_unpacked n 0 kept k l ∙ word_none 0 kept k (pow_pos k) ∙ sym (get_or-replicate n k 0 0 l))
+unpacked_zero n kept = sym (fill_by_all (line_word 0 kept) (replicate n 0) n 0 (length-replicate n 0) (λ k h. get_or-replicate n k 0 0 h ∙ sym (word_none 0 0 kept k (omega arith) (omega arith))))
 
-module _ (m i : ℕ) (kept : List ℕ) (c w : ℕ) (low_map : m < 2 ^ i) (next : c ≡ ones m) (room : c < length kept) where
-  word_below : (k : ℕ) → k < i → line_word (m + 2 ^ i) (set kept c w) k ≡ line_word m kept k
-  word_below k h =
-      elim (cases_Bool (bit_at m k)) [
-        | inl t ↦ let ne : rank m k ≡ c → ⊥ = λ e. omega (arith, rank_lt m k t) in rw (bit_below m i k h, rest_below m i k h, t, get_or-set_other)
-        | inr t ↦ rw (bit_below m i k h, rest_below m i k h, t)
-      ]
+-- for a memory whose words are all 0
+pub ruleset no_bits = (ones_zero, unpacked_zero, pow_pos)
 
-  word_own : line_word (m + 2 ^ i) (set kept c w) i ≡ w
-  word_own = rw (bit_own m i low_map, rest_own m i low_map, ← next, get_or-set_same)
+-- ---- one line more, with its word
 
-  pub unpacked_more : (n : ℕ) → i < n → unpacked n (m + 2 ^ i) (set kept c w) ≡ set (unpacked n m kept) i w
-  unpacked_more n h =
-      let long = length_unpacked n m kept in
-      let long' = length_unpacked n (m + 2 ^ i) (set kept c w) in
-      ext_get_or 0 _ _ (long' ∙ sym (length-set (unpacked n m kept) i w ∙ long))
-      (λ k l. let within : k < n = omega arith in
-      get_or_unpacked n (m + 2 ^ i) (set kept c w) k within ∙
-      elim (cases_order k i) [
-        | inl same ↦ let room' : i < length (unpacked n m kept) = omega arith in rw (same, word_own, get_or-set_same)
-        | inr (inl less) ↦ let ne : k ≡ i → ⊥ = λ e. omega arith in word_below k less ∙ sym (get_or-set_other (unpacked n m kept) i k w 0 ne ∙ get_or_unpacked n m kept k within)
-        | inr (inr more) ↦
-            let ne : k ≡ i → ⊥ = λ e. omega arith in
-            let p : 2 ^ (i + 1) ≤ 2 ^ k = pow_mono (omega arith) in
-            let small : m + 2 ^ i < 2 ^ k = omega (arith, below_more_bits m i low_map) in
-            word_none (m + 2 ^ i) (set kept c w) k small
-            ∙ sym (get_or-set_other (unpacked n m kept) i k w 0 ne ∙ get_or_unpacked n m kept k within ∙ word_none m kept k (omega arith))
-      ])
+-- a word of 0 takes no bit
+pub unpacked_same : (i bits : ℕ) (kept : List ℕ) → bits < 2 ^ i → unpacked (i + 1) bits kept ≡ unpacked i bits kept ++ 0 ∷ []
+unpacked_same i bits kept below = map-range_with_len_more (line_word bits kept) 0 i i (omega arith) ∙ ap (λ x. unpacked i bits kept ++ x ∷ []) (word_none i bits kept i below (omega arith))
 
--- no kept word is 0, also after one more
-pub no_zero_more : (kept : List ℕ) (c w : ℕ) → c < length kept → (w ≡ 0 → ⊥) → ((k : ℕ) → k < c → 0 < get_or kept k 0) → (k : ℕ) → k < c + 1 → 0 < get_or (set kept c w) k 0
-no_zero_more kept c w room some old k h =
-    elim (cases_order k c) [
-      | inl same ↦ let e = get_or-set_same kept c w 0 room in rw same (rw e (omega arith))
-      | inr (inl less) ↦ let e = get_or-set_other kept c k w 0 (λ same. omega arith) in rw e (old k less)
-      | inr (inr more) ↦ absurd (omega arith)
-    ]
+module _ (bits i : ℕ) (below : bits < 2 ^ i) where
+  -- the line's bit is above all others
+  as_digit : bit_or bits (2 ^ i) ≡ 1 * 2 ^ i + bits
+  as_digit =
+      let one : 2 ^ i ≡ 1 * 2 ^ i = omega arith in
+      or_comm bits (2 ^ i) ∙ ap (λ b. bit_or b bits) one ∙ or_shifted 1 i bits below
+
+  pub or_below : bit_or bits (2 ^ i) < 2 ^ (i + 1)
+  or_below = rw as_digit (omega (arith, pow-add 2 i 1))
+
+  pub ones_or : ones (bit_or bits (2 ^ i)) ≡ ones bits + 1
+  ones_or = rw as_digit (omega (arith, ones_cat i 1 bits below, ones-ones 1))
+
+  bit_low : (k : ℕ) → k < i → bit_or bits (2 ^ i) / 2 ^ k % 2 ≡ bits / 2 ^ k % 2
+  bit_low k h = rw as_digit (bit_at_cat_low 1 i bits k h)
+
+  rest_low : (k : ℕ) → k ≤ i → bit_or bits (2 ^ i) % 2 ^ k ≡ bits % 2 ^ k
+  rest_low k h =
+      let on : (i - k) + k ≡ i = omega arith in
+      let whole : bit_or bits (2 ^ i) % 2 ^ i ≡ bits = rw as_digit (mod_low 1 i bits below) in
+      sym (mod-mod-pow (bit_or bits (2 ^ i)) (i - k) k) ∙ ap (λ n. n % 2 ^ k) (rw on whole)
+
+  module _ (kept : List ℕ) (w : ℕ) where
+    word_low : (k : ℕ) → k < i → line_word (bit_or bits (2 ^ i)) (set kept (ones bits) w) k ≡ line_word bits kept k
+    word_low k h =
+        let b = bit_low k h in
+        let r = rest_low k (omega arith) in
+        grind (arith, nat_tests, rank_lt, get_or-set_other)
+
+    word_own : ones bits < length kept → line_word (bit_or bits (2 ^ i)) (set kept (ones bits) w) i ≡ w
+    word_own room =
+        let b : bit_or bits (2 ^ i) / 2 ^ i ≡ 1 = rw as_digit (shr_high 1 i bits below) in
+        let r : bit_or bits (2 ^ i) % 2 ^ i ≡ bits = rw as_digit (mod_low 1 i bits below) in
+        grind (arith, nat_tests, get_or-set_same)
+
+    pub unpacked_more : ones bits < length kept → unpacked (i + 1) (bit_or bits (2 ^ i)) (set kept (ones bits) w) ≡ unpacked i bits kept ++ w ∷ []
+    unpacked_more room =
+        let new = line_word (bit_or bits (2 ^ i)) (set kept (ones bits) w) in
+        let others = fill_by_all new (unpacked i bits kept) i 0 (length_unpacked i bits kept) (λ k h. get_or_unpacked i bits kept k below ∙ sym (word_low k h)) in
+        map-range_with_len_more new 0 i i (omega arith) ∙ ap₂ (λ words x. words ++ x ∷ []) (sym others) (word_own room)
+
+-- the first words of a list, and the next
+pub take_word : (words : List ℕ) (i : ℕ) → i < length words → take (i + 1) words ≡ take i words ++ get_or words i 0 ∷ []
+take_word words i h = take_more words i 0 h
+
+-- what `1 << line` computes
+pub line_bit : (line : ℕ) → line < 64 → 1 * 2 ^ line % 2 ^ 64 ≡ 2 ^ line
+line_bit line h = one_shl line 64 h
+
+-- for the loop that packs line by line
+pub ruleset packing = (line_bit, ones_zero, or_below, ones_or, ones-le, pow-add, unpacked_same, unpacked_more, length_unpacked, length-set, get_or-set_at, get_or-set_other, take_word, take_all)

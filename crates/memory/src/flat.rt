@@ -1,5 +1,6 @@
 // Flat memory: the caller's words.
-ghost use Rattle.std.specs.Prelude.{◌≤◌, length};
+ghost use Rattle.std.specs.Prelude.{◌≤◌};
+ghost use Rattle.memory.specs.Words.{LineBounds};
 
 pub mod lending;
 
@@ -13,5 +14,5 @@ pub struct FlatLines<const L: usize> {
 #[derive(Drop)]
 pub struct Flat<'a> {
     words: &'a mut [u32],
-    ghost within: { (1 ≤ length words.now) × (length words.now ≤ 64) },
+    ghost within: { LineBounds words.now },
 }

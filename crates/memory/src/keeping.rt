@@ -1,14 +1,8 @@
 // What a caller gets from any memory: it keeps what was written.
-ghost use Rattle.std.specs.Prelude.{◌≡◌, ℕ, List, length, if◌then◌else◌, ◌≢◌, nat_lt};
+ghost use Rattle.std.specs.Prelude.{◌≡◌, ℕ, length, if◌then◌else◌, ◌≢◌, nat_lt};
 ghost use Rattle.memory.specs.Words.{word_at, with_word};
 
 use crate::Memory;
-
-// Of any list of words: a written word reads back, and the others stay.
-fn words_are_kept()
-    ensures back { (words : List ℕ) (line word : ℕ) → word_at (with_word words line word) line ≡ (if nat_lt line (length words) then word else 0) }
-    ensures others { (words : List ℕ) (line word other : ℕ) → (other ≢ line) → word_at (with_word words line word) other ≡ word_at words other }
-{}
 
 // Writes a line and reads it back: the word that was written, or 0 where there is no such line. Other lines stay.
 pub fn write_and_read<M: Memory>(memory: &mut M, line: u8, word: u32) -> u32
@@ -16,7 +10,6 @@ pub fn write_and_read<M: Memory>(memory: &mut M, line: u8, word: u32) -> u32
     ensures after { M.words memory.new ≡ with_word (M.words memory.old) line word }
     ensures others { (other : ℕ) → (other ≢ line) → word_at (M.words memory.new) other ≡ word_at (M.words memory.old) other }
 {
-    words_are_kept();
     memory.write(line, word);
     memory.read(line)
 }

@@ -17,9 +17,6 @@ pub trait Memory {
     // The words, that of line 0 first.
     ghost words: { Self → List ℕ };
 
-    // L is 1 to 64.
-    ghost bounds: { (m : Self) → LineBounds (words m) };
-
     fn lines(&self) -> u8
         ensures { result ≡ length (words self.now) };
 
@@ -30,4 +27,7 @@ pub trait Memory {
     // Replaces the word of that line and no other; does nothing from L up.
     fn write(&mut self, line: u8, word: u32)
         ensures { words self.new ≡ with_word (words self.old) line word };
+
+    // The law of memories: L is 1 to 64.
+    ghost bounds: { (m : Self) → LineBounds (words m) };
 }

@@ -1,5 +1,6 @@
 -- The numbers and letters of the model's words, and what is refused.
 use Rattle.std.specs.Prelude.{ℕ, cond, ◌||◌, Ok, Err, Result, ◌==◌, nat_lt}
+use Rattle.refusal.specs.declared.Reason.{Reason}
 use Rattle.refusal.specs.declared.Reason.TheVariants.{CoreCount, LineCount, SettingRange, CoreRange, KindRange, LineRange}
 use Rattle.refusal.specs.declared.Refusal.{Refusal}
 use Rattle.refusal.specs.Refusals.{refusal}
@@ -9,10 +10,8 @@ use Rattle.model.specs.declared.Path.{Path}
 use Rattle.model.specs.declared.Path.TheVariants.{ThroughMemory, Direct}
 use Rattle.model.specs.declared.ArbiterChoice.{ArbiterChoice}
 use Rattle.model.specs.declared.ArbiterChoice.TheVariants.{WorkConserving, FixedSlots, RoundRobin}
-use Rattle.model.specs.declared.cores.Core.{Core}
-use Rattle.model.specs.declared.cores.Cores.{Cores}
-use Rattle.model.specs.declared.lines.Line.{Line}
-use Rattle.model.specs.declared.lines.Lines.{Lines}
+use Rattle.model.specs.declared.counts.Count.{Count}
+use Rattle.model.specs.declared.counts.Ordinal.{Ordinal}
 
 abbrev pub kind_number : Kind → ℕ
 kind_number Load = 0
@@ -48,38 +47,34 @@ abbrev pub arbiter_check : ℕ → Result ArbiterChoice Refusal
 arbiter_check n =
     cond (n == 0) (Ok WorkConserving) (cond (n == 1) (Ok FixedSlots) (cond (n == 2) (Ok RoundRobin) (Err (refusal SettingRange 0))))
 
--- a number of cores, 1 to 8
+-- a number of things, 1 to `max`
+abbrev pub count_check : ℕ → Reason → ℕ → Result ℕ Refusal
+count_check max why n = cond (nat_lt n 1 || nat_lt max n) (Err (refusal why 0)) (Ok n)
+
 abbrev pub cores_check : ℕ → Result ℕ Refusal
-cores_check n = cond (nat_lt n 1 || nat_lt 8 n) (Err (refusal CoreCount 0)) (Ok n)
+cores_check = count_check 8 CoreCount
 
--- a checked number of cores as a number
-abbrev pub cores_counted : Result Cores Refusal → Result ℕ Refusal
-cores_counted (Ok c) = Ok c.count
-cores_counted (Err f) = Err f
-
--- a number of lines, 1 to 64
 abbrev pub lines_check : ℕ → Result ℕ Refusal
-lines_check n = cond (nat_lt n 1 || nat_lt 64 n) (Err (refusal LineCount 0)) (Ok n)
+lines_check = count_check 64 LineCount
 
--- a checked number of lines as a number
-abbrev pub lines_counted : Result Lines Refusal → Result ℕ Refusal
-lines_counted (Ok l) = Ok l.count
-lines_counted (Err f) = Err f
+-- a checked number of things as a number
+abbrev pub counted : (max : ℕ) → Result (Count max) Refusal → Result ℕ Refusal
+counted max (Ok c) = Ok c.count
+counted max (Err f) = Err f
 
--- a core of n cores, numbered from 0
+-- one of n things, numbered from 0
+abbrev pub ordinal_check : ℕ → Reason → ℕ → Result ℕ Refusal
+ordinal_check n why k = cond (nat_lt k n) (Ok k) (Err (refusal why 0))
+
+-- a core of n cores
 abbrev pub core_check : ℕ → ℕ → Result ℕ Refusal
-core_check n core = cond (nat_lt core n) (Ok core) (Err (refusal CoreRange 0))
+core_check n = ordinal_check n CoreRange
 
--- a checked core as a number
-abbrev pub core_numbered : Result Core Refusal → Result ℕ Refusal
-core_numbered (Ok c) = Ok c.number
-core_numbered (Err f) = Err f
-
--- a line of n lines, numbered from 0
+-- a line of n lines
 abbrev pub line_check : ℕ → ℕ → Result ℕ Refusal
-line_check n line = cond (nat_lt line n) (Ok line) (Err (refusal LineRange 0))
+line_check n = ordinal_check n LineRange
 
--- a checked line as a number
-abbrev pub line_numbered : Result Line Refusal → Result ℕ Refusal
-line_numbered (Ok l) = Ok l.number
-line_numbered (Err f) = Err f
+-- a checked thing as a number
+abbrev pub numbered : (max : ℕ) → Result (Ordinal max) Refusal → Result ℕ Refusal
+numbered max (Ok o) = Ok o.number
+numbered max (Err f) = Err f

@@ -1,13 +1,14 @@
 #![tactic(auto)]
-// The words of the model that stand for numbers or letters: kinds of access, paths, arbiters, cores and lines.
+// The words of the model that stand for numbers or letters: kinds of access, paths, arbiters, cores and lines; and a bit of a
+// number.
 ghost use Rattle.std.specs.Prelude.{◌≡◌, [], ◌∷◌, Some, Ok};
-ghost use Rattle.model.specs.Numbers.{kind_number, kind_letter, kind_check, path_number, path_check, arbiter_number, arbiter_check, cores_check, cores_counted, lines_check, lines_counted, core_check, core_numbered, line_check, line_numbered};
+ghost use Rattle.model.specs.Numbers.{kind_number, kind_letter, kind_check, path_number, path_check, arbiter_number, arbiter_check};
 
-mod cores;
-mod lines;
+mod bits;
+mod counts;
 
-pub use cores::{Core, Cores};
-pub use lines::{Line, Lines};
+pub use bits::has_bit;
+pub use counts::{Core, Cores, Count, Line, Lines, Ordinal};
 use refusal::{Reason, Refusal};
 use std::fmt;
 
@@ -34,11 +35,13 @@ pub enum ArbiterChoice {
     RoundRobin,
 }
 
-impl Kind {
-    // The kind of a number; from 3 up there is none.
-    pub fn check(number: u8) -> Result<Kind, Refusal>
-        ensures { result ≡ kind_check number }
-    {
+// The kind of a number; from 3 up there is none.
+impl TryFrom<u8> for Kind {
+    type Error = Refusal;
+
+    ghost try_from_gives = { λ number r. r ≡ kind_check number };
+
+    fn try_from(number: u8) -> Result<Kind, Refusal> {
         match number {
             0 => Ok(Kind::Load),
             1 => Ok(Kind::Store),
@@ -46,12 +49,14 @@ impl Kind {
             _ => Err(Reason::KindRange.at(0)),
         }
     }
+}
 
-    pub fn number(self) -> u8
-        ensures value { result ≡ kind_number self }
-        ensures back { kind_check result ≡ Ok self }
-    {
-        match self {
+// Its number, by which it is found again.
+impl From<Kind> for u8 {
+    ghost from_gives = { λ kind number. (number ≡ kind_number kind) × (kind_check number ≡ Ok kind) };
+
+    fn from(kind: Kind) -> u8 {
+        match kind {
             Kind::Load => 0,
             Kind::Store => 1,
             Kind::Replace => 2,
@@ -64,40 +69,46 @@ impl fmt::Display for Kind {
     ghost output = { λ k. Some (kind_letter k ∷ []) };
 
     fn fmt<W: fmt::Write>(&self, f: &mut fmt::Formatter<W>) -> fmt::Result {
-        match *self {
-            Kind::Load => write!(f, "L"),
-            Kind::Store => write!(f, "S"),
-            Kind::Replace => write!(f, "R"),
-        }
+        f.write_str(match self {
+            Kind::Load => "L",
+            Kind::Store => "S",
+            Kind::Replace => "R",
+        })
     }
 }
 
-impl Path {
-    pub fn check(number: u8) -> Result<Path, Refusal>
-        ensures { result ≡ path_check number }
-    {
+impl TryFrom<u8> for Path {
+    type Error = Refusal;
+
+    ghost try_from_gives = { λ number r. r ≡ path_check number };
+
+    fn try_from(number: u8) -> Result<Path, Refusal> {
         match number {
             0 => Ok(Path::ThroughMemory),
             1 => Ok(Path::Direct),
             _ => Err(Reason::SettingRange.at(0)),
         }
     }
+}
 
-    pub fn number(self) -> u8
-        ensures value { result ≡ path_number self }
-        ensures back { path_check result ≡ Ok self }
-    {
-        match self {
+// Its number, by which it is found again.
+impl From<Path> for u8 {
+    ghost from_gives = { λ path number. (number ≡ path_number path) × (path_check number ≡ Ok path) };
+
+    fn from(path: Path) -> u8 {
+        match path {
             Path::ThroughMemory => 0,
             Path::Direct => 1,
         }
     }
 }
 
-impl ArbiterChoice {
-    pub fn check(number: u8) -> Result<ArbiterChoice, Refusal>
-        ensures { result ≡ arbiter_check number }
-    {
+impl TryFrom<u8> for ArbiterChoice {
+    type Error = Refusal;
+
+    ghost try_from_gives = { λ number r. r ≡ arbiter_check number };
+
+    fn try_from(number: u8) -> Result<ArbiterChoice, Refusal> {
         match number {
             0 => Ok(ArbiterChoice::WorkConserving),
             1 => Ok(ArbiterChoice::FixedSlots),
@@ -105,67 +116,17 @@ impl ArbiterChoice {
             _ => Err(Reason::SettingRange.at(0)),
         }
     }
+}
 
-    pub fn number(self) -> u8
-        ensures value { result ≡ arbiter_number self }
-        ensures back { arbiter_check result ≡ Ok self }
-    {
-        match self {
+// Its number, by which it is found again.
+impl From<ArbiterChoice> for u8 {
+    ghost from_gives = { λ choice number. (number ≡ arbiter_number choice) × (arbiter_check number ≡ Ok choice) };
+
+    fn from(choice: ArbiterChoice) -> u8 {
+        match choice {
             ArbiterChoice::WorkConserving => 0,
             ArbiterChoice::FixedSlots => 1,
             ArbiterChoice::RoundRobin => 2,
         }
-    }
-}
-
-impl Cores {
-    // The number is wide so that any count can be asked about.
-    pub fn check(number: u32) -> Result<Cores, Refusal>
-        ensures { cores_counted result ≡ cores_check number }
-    {
-        if number < 1 || number > 8 {
-            return Err(Reason::CoreCount.at(0));
-        }
-        Ok(Cores {
-            count: number as u8,
-        })
-    }
-}
-
-impl Lines {
-    // The number is wide so that any count can be asked about.
-    pub fn check(number: u32) -> Result<Lines, Refusal>
-        ensures { lines_counted result ≡ lines_check number }
-    {
-        if number < 1 || number > 64 {
-            return Err(Reason::LineCount.at(0));
-        }
-        Ok(Lines {
-            count: number as u8,
-        })
-    }
-}
-
-impl Core {
-    // The core of a number, of a bus with so many cores.
-    pub fn check(number: u8, cores: Cores) -> Result<Core, Refusal>
-        ensures { core_numbered result ≡ core_check cores.count number }
-    {
-        if number >= cores.count {
-            return Err(Reason::CoreRange.at(0));
-        }
-        Ok(Core { number })
-    }
-}
-
-impl Line {
-    // The line of a number, of a memory with so many lines.
-    pub fn check(number: u8, lines: Lines) -> Result<Line, Refusal>
-        ensures { line_numbered result ≡ line_check lines.count number }
-    {
-        if number >= lines.count {
-            return Err(Reason::LineRange.at(0));
-        }
-        Ok(Line { number })
     }
 }

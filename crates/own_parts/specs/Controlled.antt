@@ -1,8 +1,6 @@
 -- The granting law of the arbiter that serves the control core first.
 use Rattle.std.specs.Prelude.{◌≡◌, ℕ, ◌+◌, ◌*◌, ◌<◌, cond, Some, None, refl}
 use Rattle.std.proofs.Common.{sym, ap, ◌∙◌, arith}
-use mathlib.Core.HLevel.{is_prop→PathP}
-use Rattle.std.proofs.Math.Bridge.{le_prop}
 use Rattle.std.proofs.lemmas.Bool.Decides.{nat_tests}
 use Rattle.arbiter.specs.Granting.{BoundedWaiting}
 use Rattle.arbiter.specs.Rounds.{own_ready}
@@ -10,11 +8,6 @@ use Rattle.arbiter.specs.Masks.{ready_by_cores}
 use Rattle.arbiter.specs.Scans.{own_found, own_here, steps_after, steps_below}
 use Rattle.own_parts.specs.declared.control.ControlFirst.{ControlFirst}
 use Rattle.own_parts.specs.Control.{owner, owner_ready, slot_passed, slots, slots_to}
-
--- the invariant has one proof at most, so two of these with the same numbers are the same
-pub same : (a b : ControlFirst) → a.cores ≡ b.cores → a.slot ≡ b.slot → a ≡ b
-same a b p q =
-    λ i. record { cores = p i; slot = q i; within = is_prop→PathP (λ j. q j < 2 * (p j).count) (λ j. le_prop) a.within b.within i }
 
 -- a slot of the round belongs to one of the cores
 owner_is_core : (n slot : ℕ) → slot < 2 * n → owner slot < n

@@ -43,19 +43,23 @@ pub enum Reason {
 }
 
 // A reason, and the offset of the fault in the bytes given; 0 where the fault has no offset.
+// Stays 0 and no `Option`: the project's rows print a place for every refusal.
 #[derive(Clone, Copy, PartialEq, Eq, Debug)]
 pub struct Refusal {
     pub reason: Reason,
     pub place: usize,
 }
 
-impl Reason {
-    pub fn number(self) -> u8
-        ensures { result ≡ number self }
-    {
-        self as u8
-    }
+impl From<Reason> for u8 {
+    ghost from_gives = { λ reason n. n ≡ number reason };
 
+    fn from(reason: Reason) -> u8 {
+        // Stays `as`: it reads the discriminant.
+        reason as u8
+    }
+}
+
+impl Reason {
     // The refusal for this reason at a place.
     pub fn at(self, place: usize) -> Refusal
         ensures { result ≡ refusal self place }
@@ -72,8 +76,8 @@ impl fmt::Display for Refusal {
     ghost output = { λ x. Some (refused_text x) };
 
     fn fmt<W: fmt::Write>(&self, f: &mut fmt::Formatter<W>) -> fmt::Result {
-        let number = self.reason.number();
-        let place = self.place;
+        let Refusal { reason, place } = *self;
+        let number = u8::from(reason);
         write!(f, "refused,{number},{place}")
     }
 }

@@ -1,34 +1,25 @@
 -- The bytes of an accepted record are those that the writer writes of it.
-use Rattle.std.proofs.Common.{◌≡◌, ℕ, zero, suc, ◌+◌, ◌*◌, ◌/◌, ◌<◌, ◌≤◌, Bool, true, false, cond, not, ◌&&◌, ◌||◌, eqb, List, [], ◌∷◌, ◌++◌, length, get_or, take, drop, Ok, sym, refl, ap, ◌∙◌, append_assoc, div-one, add-one, arith, length-drop, take-add}
-use Rattle.std.proofs.lemmas.List.{drop_more, take_more, get_or-drop}
+use Rattle.std.proofs.Common.{◌≡◌, ℕ, zero, suc, ◌+◌, ◌*◌, ◌<◌, ◌≤◌, Bool, false, cond, not, ◌&&◌, ◌||◌, eqb, List, [], ◌∷◌, ◌++◌, length, get_or, take, drop, Ok, sym, refl, ap, ◌∙◌, append_assoc, div-one, add-one, arith, length-drop, take-add}
+use Rattle.std.proofs.lemmas.Grind.{common_steps}
+use Rattle.std.proofs.lemmas.List.{take_more, get_or-drop}
 use Rattle.std.proofs.lemmas.Nat.{shr-shr, div-mul-add, mod-mul-add}
 use Rattle.std.proofs.lemmas.Bool.Decides.{nat_tests}
 use Rattle.model.specs.Numbers.{kind_number, kind_of}
-use Rattle.trace.specs.declared.Record.{Record}
 use Rattle.model.specs.Bits.{bit}
+use Rattle.trace.specs.declared.Record.{Record}
 use Rattle.trace.specs.Reading.{decode, size, line_at, word_at, kind_at, map_of, has, big_endian, gap_in, line_in, word_in, kind_in}
 use Rattle.trace.specs.Writing.{bytes_of, part, map_by, differs, encode}
 use Rattle.trace.proofs.Accepted.{accepted}
 use Rattle.trace.proofs.Windows.{Bytes}
 
 -- a map byte below 16 is made of its four bits
-one_bit : (t c : ℕ) → t < 2 → cond (eqb t 1) c 0 ≡ c * t
-one_bit zero c h = omega arith
-one_bit (suc zero) c h = omega arith
-one_bit (suc (suc t)) c h = absurd (omega arith)
-
 bits_of : (m : ℕ) → m < 16 → map_by (eqb (bit m 0) 1) (eqb (bit m 1) 1) (eqb (bit m 2) 1) (eqb (bit m 3) 1) ≡ m
-bits_of m h =
-    let a : m ≡ bit m 0 + 2 * (m / 2) = omega (arith, div-one m) in
-    let b : m / 2 ≡ bit m 1 + 2 * (m / 4) = omega (arith, shr-shr m 1 1) in
-    let c : m / 4 ≡ bit m 2 + 2 * (m / 8) = omega (arith, shr-shr m 2 1) in
-    let d : m / 8 ≡ bit m 3 = omega arith in
-    omega (arith, one_bit (bit m 0) 1 (omega arith), one_bit (bit m 1) 2 (omega arith), one_bit (bit m 2) 4 (omega arith), one_bit (bit m 3) 8 (omega arith))
+bits_of m h = grind (arith, nat_tests, div-one m, shr-shr m 1 1, shr-shr m 2 1)
 
 -- so many bytes at a place are those of their number
 number_bytes : (width : ℕ) (b : List ℕ) (at : ℕ) → Bytes b → at + width ≤ length b → take width (drop at b) ≡ bytes_of width (big_endian width b at)
 number_bytes zero b at h r = refl
-number_bytes (suc zero) b at h r = let p : at < length b = omega arith in rw (drop_more b at 0 p)
+number_bytes (suc zero) b at h r = grind (arith, common_steps)
 number_bytes (suc (suc k)) b at h r =
     let low : get_or b (at + suc k) 0 < 256 = h (at + suc k) in
     let high : ℕ = big_endian (suc k) b at in
@@ -38,29 +29,25 @@ number_bytes (suc (suc k)) b at h r =
 -- a field of n bytes, t being its bit in the map
 piece : (width t n : ℕ) (b : List ℕ) (at absent : ℕ) → n ≡ width * t → t < 2 → Bytes b → at + n ≤ length b
     → take n (drop at b) ≡ part (eqb t 1) width (cond (eqb t 1) (big_endian width b at) absent)
-piece width zero n b at absent e l h r = let z : n ≡ 0 = omega arith in rw z
-piece width (suc zero) n b at absent e l h r = let z : n ≡ width = omega arith in rw z (number_bytes width b at h (omega arith))
-piece width (suc (suc t)) n b at absent e l h r = absurd (omega arith)
+piece width t n b at absent e l h r = grind (arith, nat_tests, number_bytes width b at h)
 
 regroup : (o g l w k : List ℕ) → (((o ++ g) ++ l) ++ w) ++ k ≡ o ++ (g ++ (l ++ (w ++ k)))
 regroup o g l w k = simp append_assoc
 
 -- a field that is present differs from what its absence means
 present : (h : Bool) (x a : ℕ) → (h && eqb (cond h x a) a) ≡ false → h ≡ differs (cond h x a) a
-present true x a e = grind arith
-present false x a e = grind (arith, nat_tests)
+present h x a e = grind (arith, nat_tests)
 
 kind_present : (h : Bool) (x : ℕ) → (h && not (eqb (cond h x 0) 1 || eqb (cond h x 0) 2)) ≡ false
     → (h ≡ differs (cond h x 0) 0) × (kind_number (kind_of (cond h x 0)) ≡ cond h x 0)
-kind_present true x e = (grind (arith, nat_tests), grind (arith, nat_tests))
-kind_present false x e = (refl, refl)
+kind_present h x e = (grind (arith, nat_tests), grind (arith, nat_tests))
 
 lean_parts : (a b c d e : Bool) → (a || b || (c && (d || e))) ≡ false → (a ≡ false) × (b ≡ false) × ((c && d) ≡ false)
 lean_parts a b c d e h = grind arith
 
 same_bytes : (m : ℕ) (g g' l l' w w' k k' : Bool) (a b c d d' : ℕ) → m ≡ map_by g l w k → g ≡ g' → l ≡ l' → w ≡ w' → k ≡ k' → d ≡ d'
     → m ∷ (part g 2 a ++ (part l 1 b ++ (part w 4 c ++ part k 1 d))) ≡ map_by g' l' w' k' ∷ (part g' 2 a ++ (part l' 1 b ++ (part w' 4 c ++ part k' 1 d')))
-same_bytes m g g' l l' w w' k k' a b c d d' e p q s t u = rw (e, p, q, s, t, u)
+same_bytes m g g' l l' w w' k k' a b c d d' e p q s t u = cc
 
 pub canonical : (b : List ℕ) (before : ℕ) (r : Record) → Bytes b → decode b before ≡ Ok r → take (size (map_of b)) b ≡ encode r before
 unfolding encode
@@ -86,5 +73,5 @@ canonical b before r h e =
     apart
     ∙ (same_bytes m _ _ _ _ _ _ _ _ (gap_in b) (line_in b before) (word_in b) (kind_in b) _ (sym (bits_of m a.known))
     (present (has b 0) (big_endian 2 b 1) 0 lean.0) (present (has b 1) (big_endian 1 b (line_at m)) before lean.1) (present (has b 2) (big_endian 4 b (word_at m)) 0 lean.2)
-    (kind.0 ∙ ap (λ n. differs n 0) (sym kind.1)) (sym kind.1)
+    (rw kind.1 kind.0) (sym kind.1)
     ∙ ap (λ x. encode x before) (sym a.value))

@@ -1,4 +1,3 @@
-pub mod Apart
 pub mod Windows
 pub mod Accepted
 pub mod Steps

@@ -1,14 +1,11 @@
 -- A record that is written is read back.
-use Rattle.std.proofs.Common.{◌≡◌, ℕ, Bool, false, cond, not, ◌&&◌, ◌||◌, eqb, ltb, leb, List, ◌++◌, length, Ok, Err, Result, refl, ap, ◌∙◌, arith, length-append}
-use Rattle.refusal.specs.declared.Reason.{Reason}
-use Rattle.refusal.specs.declared.Reason.TheVariants.{UnknownMapBits, CutShort, KindByte, RedundantField}
+use Rattle.std.proofs.Common.{◌≡◌, ℕ, false, cond, not, ◌&&◌, ◌||◌, eqb, ltb, leb, List, ◌++◌, length, Ok, refl, ap, ◌∙◌, arith, length-append}
 use Rattle.std.proofs.lemmas.Bool.{le-ltb}
 use Rattle.std.proofs.lemmas.Bool.Decides.{nat_tests}
 use Rattle.model.specs.declared.Kind.{Kind}
-use Rattle.model.specs.declared.Kind.TheVariants.{Load, Store, Replace}
 use Rattle.model.specs.Numbers.{kind_number, kind_of}
 use Rattle.trace.specs.declared.Record.{Record}
-use Rattle.trace.specs.Reading.{decode, size, map_of, gap_in, line_in, word_in, kind_in, record_in, strange_kind, redundant}
+use Rattle.trace.specs.Reading.{decode, size, map_of, gap_in, line_in, word_in, kind_in, strange_kind, redundant}
 use Rattle.trace.specs.Writing.{encode, differs, Writable}
 use Rattle.trace.proofs.Laid.{laid}
 
@@ -17,35 +14,22 @@ kept : (n absent m : ℕ) → m ≡ n → cond (differs n absent) m absent ≡ n
 kept n absent m e = grind (arith, nat_tests)
 
 -- a kind by its number
-pub kind_back : (k : Kind) → kind_of (kind_number k) ≡ k
-kind_back Load = refl
-kind_back Store = refl
-kind_back Replace = refl
+kind_back : (k : Kind) → kind_of (kind_number k) ≡ k
+kind_back k = grind arith
 
 kind_fine : (k : Kind) → (differs (kind_number k) 0 && not (eqb (kind_number k) 1 || eqb (kind_number k) 2)) ≡ false
-kind_fine Load = refl
-kind_fine Store = refl
-kind_fine Replace = refl
+kind_fine k = grind arith
 
-lean_fine : (g l w k : Bool) → (not w && not k) ≡ false → ((not g && g) || (not l && l) || (not w && (w || not k))) ≡ false
-lean_fine g l w k h = grind arith
-
--- the tests of `decode`, over their answers
-abbrev tested : Bool → Bool → Bool → Bool → Record → Result Record Reason
-tested m t k r x =
-    cond m (Err UnknownMapBits) (cond t (Err CutShort) (cond k (Err KindByte) (cond r (Err RedundantField) (Ok x))))
-
-passes : (m t k r : Bool) (x : Record) → m ≡ false → t ≡ false → k ≡ false → r ≡ false → tested m t k r x ≡ Ok x
-passes m t k r x p q s u = rw (p, q, s, u)
-
-same_record : (g l w : ℕ) (k : Kind) (r : Record) → g ≡ r.gap → l ≡ r.line → w ≡ r.word → k ≡ r.kind
-    → ◌≡◌ {A = Record} (record { gap = g; line = l; word = w; kind = k }) r
-same_record g l w k r p q s t = rw (p, q, s, t)
+-- what passes the tests of `decode` is read
+decodes : (b : List ℕ) (before : ℕ) (r : Record) → leb 16 (map_of b) ≡ false → ltb (length b) (size (map_of b)) ≡ false → strange_kind b ≡ false
+    → redundant b before ≡ false → gap_in b ≡ r.gap → line_in b before ≡ r.line → word_in b ≡ r.word → kind_of (kind_in b) ≡ r.kind → decode b before ≡ Ok r
+unfolding decode
+decodes b before r m t k s gap line word kind = rw (m, t, k, s, gap, line, word, kind)
 
 -- a record that can be written is read back, whatever follows it
 pub reads_back : (r : Record) (rest : List ℕ) (before : ℕ) → Writable r
     → (decode (encode r before ++ rest) before ≡ Ok r) × (size (map_of (encode r before ++ rest)) ≡ length (encode r before))
-unfolding decode encode
+unfolding encode
 reads_back r rest before fits =
     let b : List ℕ = encode r before ++ rest in
     let f = laid (differs r.gap 0) (differs r.line before) (differs r.word 0) (differs (kind_number r.kind) 0) r rest before in
@@ -58,8 +42,5 @@ reads_back r rest before fits =
     let k : strange_kind b ≡ false = rw (kind, ap (λ x. x.1.3) f) (kind_fine r.kind) in
     let s : redundant b before ≡ false =
     rw (gap, line, word, kind, ap (λ x. x.1.0) f, ap (λ x. x.1.1) f, ap (λ x. x.1.2) f)
-    (lean_fine (eqb r.gap 0) (eqb r.line before) (eqb r.word 0) (eqb (kind_number r.kind) 1) fits) in
-    let x : record_in b before ≡ r = same_record _ _ _ _ r gap line word (ap kind_of kind ∙ kind_back r.kind) in (
-      passes (leb 16 (map_of b)) (ltb (length b) (size (map_of b))) (strange_kind b) (redundant b before) (record_in b before) (ap (λ x. x.0) f) t k s ∙ ap (λ y. Ok y) x,
-      whole,
-    )
+    (grind arith) in
+    (decodes b before r (ap (λ x. x.0) f) t k s gap line word (ap kind_of kind ∙ kind_back r.kind), whole)

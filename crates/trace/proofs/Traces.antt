@@ -1,30 +1,24 @@
 -- The two round trips of whole traces.
-use Rattle.std.proofs.Common.{◌≡◌, ℕ, zero, suc, ◌+◌, ◌-◌, ◌<◌, ◌≤◌, ltb, List, [], ◌∷◌, ◌++◌, length, take, drop, Some, None, Ok, Err, Option, Result, sym, refl, ap, ◌∙◌, subst, append_assoc, append-nil, arith, length-append}
+use Rattle.std.proofs.Common.{◌≡◌, ℕ, zero, suc, ◌+◌, ◌-◌, ◌<◌, ◌≤◌, List, [], ◌∷◌, ◌++◌, length, take, drop, Some, None, Ok, Err, Option, Result, sym, refl, ap, ◌∙◌, append-nil, arith, length-append}
+use Rattle.std.proofs.lemmas.Bool.Decides.{nat_tests}
+use Rattle.std.proofs.lemmas.Grind.{common_steps}
 use Rattle.std.proofs.lemmas.List.{take-append-drop, length-take-le}
 use Rattle.refusal.specs.declared.Reason.{Reason}
 use Rattle.refusal.specs.declared.Refusal.{Refusal}
 use Rattle.refusal.specs.Refusals.{and_then}
+use Rattle.model.specs.declared.Kind.{Kind}
+use Rattle.model.specs.Numbers.{kind_check}
 use Rattle.trace.specs.declared.Record.{Record}
 use Rattle.trace.specs.declared.writer.Draft.{Draft}
 use Rattle.trace.specs.Reading.{size, map_of}
-use Rattle.trace.specs.Writing.{encode, put, Writable, stray_word, unless_stray, record_from, placed, filled}
+use Rattle.trace.specs.Writing.{encode, put, Writable, unless_stray, record_from, placed, filled}
 use Rattle.trace.specs.Whole.{window, read_at, joined, followed, records_from, records_in, encode_all, Written, records_for, ReadsBack, Rewritten, SameBytes}
-use Rattle.std.proofs.lemmas.Bool.{ltb-false}
-use Rattle.model.specs.declared.Kind.{Kind}
-use Rattle.model.specs.Numbers.{kind_check}
-use Rattle.trace.proofs.Laid.{encode_parts}
+use Rattle.trace.proofs.Laid.{one_le_encode}
 use Rattle.trace.proofs.ReadBack.{reads_back}
 use Rattle.trace.proofs.Canonical.{canonical}
-use Rattle.trace.proofs.Windows.{Bytes, window_drop, window_between, window_all, window_bytes, window_over}
+use Rattle.trace.proofs.Windows.{Bytes, window_drop, window_between, window_bytes, window_over, window_all}
 use Rattle.trace.proofs.Buffers.{put_none, put_then}
-use Rattle.trace.proofs.Steps.{has_read, none_read, read_none, read_some, rest_of}
-use Rattle.trace.proofs.Apart.{err_ok, ok_same, test_passed}
-
-moved_on : (front r xs rest : List ℕ) → front ++ ((r ++ xs) ++ rest) ≡ (front ++ r) ++ (xs ++ rest)
-moved_on front r xs rest = simp append_assoc
-
-same_records : (b b' : List ℕ) (at at' end end' before : ℕ) → b ≡ b' → at ≡ at' → end ≡ end' → records_in b at end before ≡ records_in b' at' end' before
-same_records b b' at at' end end' before p q r = rw (p, q, r)
+use Rattle.trace.proofs.Steps.{has_read, none_read, read_none, read_some, unrolled}
 
 -- a list of records that can be written
 abbrev AllWritable : List Record → Type 0
@@ -34,9 +28,7 @@ AllWritable (r ∷ rs) = Writable r × AllWritable rs
 -- records as bytes read back the same, whatever stands before and after them
 encoded_reads_back : (front rest : List ℕ) (rs : List Record) (before : ℕ) → AllWritable rs
     → records_in (front ++ (encode_all rs before ++ rest)) (length front) (length front + length (encode_all rs before)) before ≡ Ok rs
-encoded_reads_back front rest [] before w =
-    rest_of (front ++ rest) (length front) (length front + 0) before (Ok None)
-    (sym (read_none (front ++ rest) (length front) (length front + 0) before (omega arith)))
+encoded_reads_back front rest [] before w = grind (arith, unrolled, read_none)
 encoded_reads_back front rest (r ∷ rs) before (w, ws) =
     let e : List ℕ = encode r before in
     let x : List ℕ = encode_all rs r.line in
@@ -44,14 +36,11 @@ encoded_reads_back front rest (r ∷ rs) before (w, ws) =
     let at : ℕ = length front in
     let end : ℕ = length front + length (e ++ x) in
     let back = reads_back r x before w in
-    let n : length (e ++ x) ≡ length e + length x = length-append e x in
-    let m : length (front ++ e) ≡ at + length e = length-append front e in
-    let inside : at < end = omega (arith, back.1) in
+    let inside : at < end = simp length-append (omega (arith, back.1)) in
     let read = read_some b (e ++ x) at end before (length e) (Ok r) inside (sym (window_between front (e ++ x) rest)) (sym back.0) (sym back.1) in
     let more : records_in b (at + length e) end r.line ≡ Ok rs =
-    same_records b ((front ++ e) ++ (x ++ rest)) (at + length e) (length (front ++ e)) end (length (front ++ e) + length x) r.line (moved_on front e x rest) (sym m) (omega arith)
-    ∙ encoded_reads_back (front ++ e) rest rs r.line ws in
-    rest_of b at end before _ read ∙ ap (joined r) more
+    grind (arith, common_steps, encoded_reads_back (front ++ e) rest rs r.line ws) in
+    grind (arith, unrolled b at end before)
 
 -- records that were put at a place are a trace there
 put_reads_back : (out x : List ℕ) (at next : ℕ) (rs : List Record) (before : ℕ) → at ≤ length out
@@ -61,14 +50,12 @@ put_reads_back out x at next rs before h n e w =
     let front : List ℕ = take at out in
     let rest : List ℕ = drop (at + length (encode_all rs before)) out in
     let m : length front ≡ at = length-take-le at out h in
-    same_records x (front ++ (encode_all rs before ++ rest)) at (length front) next (length front + length (encode_all rs before)) before e (sym m) (n ∙ ap (λ k. k + length (encode_all rs before)) (sym m))
-    ∙ encoded_reads_back front rest rs before w
+    grind (arith, encoded_reads_back front rest rs before w)
 
 pub record_reads_back : (out x : List ℕ) (at next : ℕ) (r : Record) (before : ℕ) → at ≤ length out
     → next ≡ at + length (encode r before) → x ≡ put out at (encode r before) → Writable r → records_in x at next before ≡ Ok (r ∷ [])
 record_reads_back out x at next r before h n e w =
-    let one : encode r before ≡ encode r before ++ [] = sym (append-nil (encode r before)) in
-    put_reads_back out x at next (r ∷ []) before h (n ∙ ap (λ l. at + length l) one) (e ∙ ap (put out at) one) (w, tt)
+    put_reads_back out x at next (r ∷ []) before h (rw append-nil n) (rw append-nil e) (w, tt)
 
 -- what a call that wrote a draft says
 pub record Wrote (out : List ℕ) (at before : ℕ) (d : Draft) (n : ℕ) : Type 0 where
@@ -83,28 +70,22 @@ pub record Wrote (out : List ℕ) (at before : ℕ) (d : Draft) (n : ℕ) : Type
 checked : (x : Result Kind Refusal) (d : Draft) (r : Record) → and_then x (λ k. unless_stray (record { gap = d.gap; line = d.line; word = d.word; kind = k })) ≡ Ok r
     → Writable r × (r.line ≡ d.line)
 checked (Ok k) d r h =
-    let x : Record = record { gap = d.gap; line = d.line; word = d.word; kind = k } in
-    let p = test_passed (stray_word x) _ (Ok x) r h in
-    let e : x ≡ r = ok_same x r p.1 in
-    (subst Writable e p.0, ap (λ y. y.line) (sym e))
-checked (Err f) d r h = err_ok _ _ h
+    (grind arith, grind arith)
+checked (Err f) d r h = cc
 
 wrote_by : (out : List ℕ) (at before : ℕ) (d : Draft) (n : ℕ) (x : Result Record Refusal) → record_from d ≡ x → placed x out at before ≡ Ok n → Wrote out at before d n
 wrote_by out at before d n (Ok r) e h =
-    let size : ℕ = length (encode r before) in
-    let p = test_passed (ltb (length out - at) size) _ (Ok (at + size)) n h in
     let c = checked (kind_check d.kind) d r e in
-    let room : size ≤ length out - at = ltb-false (length out - at) size p.0 in
     record {
       rec = r;
       is = e;
       fine = c.0;
       line = c.1;
-      room = omega (arith, encode_parts r before);
-      place = sym (ok_same (at + size) n p.1);
-      bytes = ap (λ y. filled y out at before) e ∙ rw p.0;
+      room = grind (arith, nat_tests, one_le_encode r before);
+      place = grind (arith, nat_tests);
+      bytes = grind (arith, nat_tests);
     }
-wrote_by out at before d n (Err f) e h = err_ok _ _ h
+wrote_by out at before d n (Err f) e h = cc
 
 wrote : (out : List ℕ) (at before : ℕ) (d : Draft) (n : ℕ) → placed (record_from d) out at before ≡ Ok n → Wrote out at before d n
 wrote out at before d n h = wrote_by out at before d n (record_from d) refl h
@@ -125,18 +106,16 @@ chain out at before (d ∷ ds) out' next (n, p, w) =
     let e : List ℕ = encode one.rec before in
     let x : List ℕ = encode_all more.rs one.rec.line in
     let same : encode_all more.rs d.line ≡ x = ap (encode_all more.rs) (sym one.line) in
-    let place : next ≡ n + length x = more.place ∙ ap (λ l. n + length l) same in
     record {
       rs = one.rec ∷ more.rs;
-      are = ap (λ y. and_then y (λ r. joined r (records_for ds))) one.is ∙ ap (joined one.rec) more.are;
+      are = grind arith;
       fine = (one.fine, more.fine);
-      place = omega (arith, place, one.place, length-append e x);
+      place = grind (arith, common_steps);
       bytes = put_then out at e one.room (filled (record_from d) out at before) out' n x one.bytes one.place (more.bytes ∙ ap (put _ n) same);
     }
 
 pub written_reads_back : ReadsBack
-written_reads_back out at before [] out' next (e, n) =
-    rest_of out' at next before (Ok None) (sym (read_none out' at next before (omega arith)))
+written_reads_back out at before [] out' next (e, n) = grind (arith, unrolled, read_none)
 written_reads_back out at before (d ∷ ds) out' next (n, p, w) =
     let one = wrote out at before d n p in
     let all = chain out at before (d ∷ ds) out' next (n, p, w) in
@@ -145,31 +124,28 @@ written_reads_back out at before (d ∷ ds) out' next (n, p, w) =
 -- the records that follow one
 joined_ok : (r : Record) (y : Result (List Record) Refusal) (rs : List Record) → joined r y ≡ Ok rs → (qs : List Record) × (y ≡ Ok qs) × (r ∷ qs ≡ rs)
 joined_ok r (Ok qs) rs h = (qs, refl, cc)
-joined_ok r (Err f) rs h = err_ok _ _ h
+joined_ok r (Err f) rs h = cc
 
 -- one record of an accepted trace, where those after it are written again as they stand
 rewrites_one : (b : List ℕ) (at end before : ℕ) (x : Result (Option (Record × ℕ)) Reason) (more : ℕ → ℕ → Result (List Record) Refusal) (rs : List Record)
     → Bytes b → read_at b at end before ≡ x → followed at x more ≡ Ok rs
     → ((next line : ℕ) (qs : List Record) → at < next → more next line ≡ Ok qs → encode_all qs line ≡ window b next end)
     → encode_all rs before ≡ window b at end
-rewrites_one b at end before (Ok None) more rs h e k rest =
-    let q : [] ≡ rs = cc in
-    ap (λ l. encode_all l before) (sym q) ∙ window_over b at end (none_read b at end before e)
+rewrites_one b at end before (Ok None) more rs h e k rest = grind (arith, window_over, none_read)
 rewrites_one b at end before (Ok (Some (r, next))) more rs h e k rest =
     let read = has_read b at end before r next e in
     let w : List ℕ = window b at end in
     let n : ℕ = size (map_of w) in
     let j = joined_ok r (more next r.line) rs k in
     let one : take n w ≡ encode r before = canonical w before r (window_bytes b at end h) read.decoded in
-    let others : encode_all j.0 r.line ≡ drop n w =
-    rest next r.line j.0 read.forward j.1 ∙ (ap (λ p. window b p end) read.place ∙ sym (window_drop b at end n (omega (arith, read.place, read.within)))) in
+    let others : encode_all j.0 r.line ≡ drop n w = grind (arith, rest next r.line j.0 read.forward j.1, window_drop b at end n) in
     ap (λ l. encode_all l before) (sym j.2) ∙ rw (← one, others) (take-append-drop n w)
-rewrites_one b at end before (Err why) more rs h e k rest = err_ok _ _ k
+rewrites_one b at end before (Err why) more rs h e k rest = cc
 
 rewrites_from : (turns : ℕ) (b : List ℕ) (at end before : ℕ) (rs : List Record) → Bytes b → end - at ≤ turns → records_from turns b at end before ≡ Ok rs
     → encode_all rs before ≡ window b at end
 unfolding records_from
-rewrites_from zero b at end before rs h t k = let q : [] ≡ rs = cc in ap (λ l. encode_all l before) (sym q) ∙ window_over b at end (omega arith)
+rewrites_from zero b at end before rs h t k = grind (arith, window_over)
 rewrites_from (suc turns) b at end before rs h t k =
     rewrites_one b at end before (read_at b at end before) _ rs h refl k
     (λ next line qs f e. rewrites_from turns b next end line qs h (omega arith) e)

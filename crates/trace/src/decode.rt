@@ -1,146 +1,122 @@
 // One record, read from bytes that begin with its map byte.
-ghost use Rattle.std.specs.Prelude.{◌≡◌, ◌+◌, ◌<◌, ◌≤◌, length};
+ghost use Rattle.std.specs.Prelude.{◌≡◌, ◌+◌, ◌*◌, ◌<◌, ◌≤◌, true, cond, Ok, Err, length, take, drop};
+ghost use Rattle.std.specs.Bool.{then_some};
+ghost use Rattle.refusal.specs.declared.Reason.TheVariants.{KindByte};
 ghost use Rattle.model.specs.Numbers.{kind_of};
 ghost use Rattle.model.specs.Bits.{bit};
-ghost use Rattle.trace.specs.Reading.{line_at, word_at, kind_at, size, big_endian, map_of, gap_in, line_in, word_in, kind_in, strange_kind, redundant, decode};
+ghost use Rattle.trace.specs.Reading.{line_at, word_at, kind_at, size, big_endian, map_of, has, kind_in, strange_kind, decode};
 
 use crate::Record;
-use model::Kind;
+use model::{Kind, has_bit};
 use refusal::Reason;
 
-// Bit `k` of a map byte.
-pub(crate) fn bit_of(map: u8, k: u8) -> u8
-    requires { k < 8 }
-    ensures { result ≡ bit map k }
+// How many bytes the field of bit `k` takes: so many, or none where its bit does not stand.
+fn bytes_if(map: u8, k: usize, width: usize) -> usize
+    ensures { result ≡ width * bit map k }
 {
-    map >> k & 1
+    if has_bit(map.into(), k) { width } else { 0 }
 }
 
 fn line_at(map: u8) -> usize
     ensures { result ≡ line_at map }
 {
-    1 + 2 * bit_of(map, 0) as usize
+    1 + bytes_if(map, 0, 2)
 }
 
 fn word_at(map: u8) -> usize
     ensures { result ≡ word_at map }
 {
-    line_at(map) + bit_of(map, 1) as usize
+    line_at(map) + bytes_if(map, 1, 1)
 }
 
 fn kind_at(map: u8) -> usize
     ensures { result ≡ kind_at map }
 {
-    word_at(map) + 4 * bit_of(map, 2) as usize
+    word_at(map) + bytes_if(map, 2, 4)
 }
 
 // The length of a record with this map byte.
 pub(crate) fn size_of(map: u8) -> usize
     ensures { result ≡ size map }
 {
-    kind_at(map) + bit_of(map, 3) as usize
+    kind_at(map) + bytes_if(map, 3, 1)
 }
 
 // The first byte, 0 where there is none.
 pub(crate) fn map_of(bytes: &[u8]) -> u8
     ensures { result ≡ map_of bytes.now }
 {
-    if bytes.len() > 0 { bytes[0] } else { 0 }
+    bytes.first().copied().unwrap_or(0)
 }
 
-pub(crate) fn two_bytes(bytes: &[u8], at: usize) -> u16
-    requires { at + 1 < length bytes.now }
-    ensures { result ≡ big_endian 2 bytes.now at }
+// The `N` bytes from a place.
+fn bytes_at<const N: usize>(bytes: &[u8], at: usize) -> [u8; N]
+    requires { at + N ≤ length bytes.now }
+    ensures { result ≡ take N (drop at bytes.now) }
 {
-    u16::from_be_bytes([bytes[at], bytes[at + 1]])
+    *bytes[at..].first_chunk().unwrap()
 }
 
-fn four_bytes(bytes: &[u8], at: usize) -> u32
-    requires { at + 3 < length bytes.now }
-    ensures { result ≡ big_endian 4 bytes.now at }
-{
-    u32::from_be_bytes([bytes[at], bytes[at + 1], bytes[at + 2], bytes[at + 3]])
+// Bytes that begin with a whole record: as many as its map byte says, or more.
+#[derive(Clone, Copy)]
+struct WholeRecord<'a> {
+    bytes: &'a [u8],
+    ghost whole: { size (map_of bytes.now) ≤ length bytes.now },
 }
 
-fn gap_in(bytes: &[u8]) -> u16
-    requires { size (map_of bytes.now) ≤ length bytes.now }
-    ensures { result ≡ gap_in bytes.now }
-{
-    if bit_of(bytes[0], 0) == 1 {
-        two_bytes(bytes, 1)
-    } else {
-        0
+// Its fields, where they are present.
+impl WholeRecord<'_> {
+    // The bytes of the field of bit `k`, which stands at a place.
+    // Stays an `if`: off a closure in generic code, for `then`, the check reads nothing.
+    fn field<const N: usize>(&self, k: usize, at: usize) -> Option<[u8; N]>
+        requires { has self.now.bytes.now k ≡ true → at + N ≤ length self.now.bytes.now }
+        ensures { result ≡ then_some (has self.now.bytes.now k) (take N (drop at self.now.bytes.now)) }
+    {
+        if has_bit(map_of(self.bytes).into(), k) {
+            Some(bytes_at(self.bytes, at))
+        } else {
+            None
+        }
     }
-}
 
-fn line_in(bytes: &[u8], before: u8) -> u8
-    requires { size (map_of bytes.now) ≤ length bytes.now }
-    ensures { result ≡ line_in bytes.now before }
-{
-    let map = bytes[0];
-    if bit_of(map, 1) == 1 {
-        bytes[line_at(map)]
-    } else {
-        before
+    fn gap(&self) -> Option<u16>
+        ensures { result ≡ then_some (has self.now.bytes.now 0) (big_endian 2 self.now.bytes.now 1) }
+    {
+        self.field(0, 1).map(u16::from_be_bytes)
     }
-}
 
-fn word_in(bytes: &[u8]) -> u32
-    requires { size (map_of bytes.now) ≤ length bytes.now }
-    ensures { result ≡ word_in bytes.now }
-{
-    let map = bytes[0];
-    if bit_of(map, 2) == 1 {
-        four_bytes(bytes, word_at(map))
-    } else {
-        0
+    fn line(&self) -> Option<u8>
+        ensures { result ≡ then_some (has self.now.bytes.now 1) (big_endian 1 self.now.bytes.now (line_at (map_of self.now.bytes.now))) }
+    {
+        self.field(1, line_at(map_of(self.bytes)))
+            .map(u8::from_be_bytes)
     }
-}
 
-fn kind_in(bytes: &[u8]) -> u8
-    requires { size (map_of bytes.now) ≤ length bytes.now }
-    ensures { result ≡ kind_in bytes.now }
-{
-    let map = bytes[0];
-    if bit_of(map, 3) == 1 {
-        bytes[kind_at(map)]
-    } else {
-        0
+    fn word(&self) -> Option<u32>
+        ensures { result ≡ then_some (has self.now.bytes.now 2) (big_endian 4 self.now.bytes.now (word_at (map_of self.now.bytes.now))) }
+    {
+        self.field(2, word_at(map_of(self.bytes)))
+            .map(u32::from_be_bytes)
     }
-}
 
-// A kind byte that is neither 1 nor 2.
-fn has_strange_kind(bytes: &[u8]) -> bool
-    requires { size (map_of bytes.now) ≤ length bytes.now }
-    ensures { result ≡ strange_kind bytes.now }
-{
-    let kind = kind_in(bytes);
-    bit_of(bytes[0], 3) == 1 && !(kind == 1 || kind == 2)
-}
-
-// A field that says what its absence says, or a word without a store.
-fn is_redundant(bytes: &[u8], before: u8) -> bool
-    requires { size (map_of bytes.now) ≤ length bytes.now }
-    ensures { result ≡ redundant bytes.now before }
-{
-    let map = bytes[0];
-    bit_of(map, 0) == 1 && gap_in(bytes) == 0
-        || bit_of(map, 1) == 1 && line_in(bytes, before) == before
-        || bit_of(map, 2) == 1 && (word_in(bytes) == 0 || kind_in(bytes) != 1)
-}
-
-// The kind of a number that is not above 2.
-fn kind_named(number: u8) -> Kind
-    ensures { result ≡ kind_of number }
-{
-    match number {
-        0 => Kind::Load,
-        1 => Kind::Store,
-        _ => Kind::Replace,
+    // Its kind, by a byte that is 1 or 2; a load where there is no such byte.
+    fn kind(&self) -> Result<Kind, Reason>
+        ensures { result ≡ cond (strange_kind self.now.bytes.now) (Err KindByte) (Ok (kind_of (kind_in self.now.bytes.now))) }
+    {
+        let number = self
+            .field(3, kind_at(map_of(self.bytes)))
+            .map(u8::from_be_bytes);
+        match number {
+            None => Ok(Kind::Load),
+            Some(1) => Ok(Kind::Store),
+            Some(2) => Ok(Kind::Replace),
+            Some(_) => Err(Reason::KindByte),
+        }
     }
 }
 
 // The record that the bytes begin with, or the lowest number that is wrong with it.
+#[tactic(auto, unfolding(crate::specs::Reading::decode))]
 pub(crate) fn decode(bytes: &[u8], before: u8) -> Result<Record, Reason>
     ensures { result ≡ decode bytes.now before }
 {
@@ -151,16 +127,22 @@ pub(crate) fn decode(bytes: &[u8], before: u8) -> Result<Record, Reason>
     if bytes.len() < size_of(map) {
         return Err(Reason::CutShort);
     }
-    if has_strange_kind(bytes) {
-        return Err(Reason::KindByte);
-    }
-    if is_redundant(bytes, before) {
+    let whole = WholeRecord { bytes };
+    let kind = whole.kind()?;
+    let gap = whole.gap();
+    let line = whole.line();
+    let word = whole.word();
+    // A field that says what its absence says, or a word without a store.
+    if gap == Some(0)
+        || line == Some(before)
+        || word.is_some_and(|word| word == 0 || kind != Kind::Store)
+    {
         return Err(Reason::RedundantField);
     }
     Ok(Record {
-        gap: gap_in(bytes),
-        line: line_in(bytes, before),
-        word: word_in(bytes),
-        kind: kind_named(kind_in(bytes)),
+        gap: gap.unwrap_or(0),
+        line: line.unwrap_or(before),
+        word: word.unwrap_or(0),
+        kind,
     })
 }

@@ -1,7 +1,7 @@
 // Reading a trace, record after record.
-ghost use Rattle.std.specs.Prelude.{◌≡◌, length};
-ghost use Rattle.trace.specs.Reader.{answer, after, remaining, taken};
-ghost use Rattle.trace.specs.Whole.{window, read_at, followed, records_in, trace_in, count_of, Rewritten, SameBytes};
+ghost use Rattle.std.specs.Prelude.{◌≡◌, ℕ, length};
+ghost use Rattle.trace.specs.Reader.{read_here, answer, after, remaining, taken};
+ghost use Rattle.trace.specs.Whole.{window, trace_in, count_of, Rewritten, SameBytes};
 
 use crate::Record;
 use crate::decode::{decode, map_of, size_of};
@@ -14,35 +14,6 @@ pub struct TraceReader<'a> {
     at: usize,
     end: usize,
     before: u8,
-}
-
-// The bytes from `at` up to `end`, as far as there are any.
-fn part_of(bytes: &[u8], at: usize, end: usize) -> &[u8]
-    ensures { result.now ≡ window bytes.now at end }
-{
-    let end = end.min(bytes.len());
-    if at < end { &bytes[at..end] } else { &[] }
-}
-
-// What stands at a place of a trace that ends at `end`, and the place after it. The records from there on are
-// this one and those that follow it.
-fn read_at(
-    bytes: &[u8],
-    at: usize,
-    end: usize,
-    before: u8,
-) -> Result<Option<(Record, usize)>, Reason>
-    ensures value { result ≡ read_at bytes.now at end before }
-    ensures rest { records_in bytes.now at end before ≡ followed at result (λ next line. records_in bytes.now next end line) }
-{
-    if at >= end {
-        return Ok(None);
-    }
-    let ahead = part_of(bytes, at, end);
-    match decode(ahead, before) {
-        Ok(record) => Ok(Some((record, at + size_of(map_of(ahead))))),
-        Err(reason) => Err(reason),
-    }
 }
 
 impl<'a> TraceReader<'a> {
@@ -77,46 +48,63 @@ impl<'a> TraceReader<'a> {
         (self.at, self.before)
     }
 
+    // The bytes that are left, as far as there are any.
+    fn ahead(&self) -> &'a [u8]
+        ensures { result.now ≡ window self.now.bytes.now self.now.at self.now.end }
+    {
+        let end = self.end.min(self.bytes.len());
+        self.bytes.get(self.at..end).unwrap_or(&[])
+    }
+
+    // The record at its place, and the place after it.
+    #[tactic(auto, unfolding(crate::specs::Whole::read_at))]
+    fn read_here(&self) -> Result<Option<(Record, usize)>, Reason>
+        ensures { result ≡ read_here self.now }
+    {
+        if self.at >= self.end {
+            return Ok(None);
+        }
+        let ahead = self.ahead();
+        let record = decode(ahead, self.before)?;
+        Ok(Some((record, self.at + size_of(map_of(ahead)))))
+    }
+
     // The next record, or none at the end, again and again. A refused read moves nothing.
+    #[tactic(auto, using(crate::proofs::Steps::remaining_taken))]
     pub fn next(&mut self) -> Result<Option<Record>, Refusal>
         ensures result { result ≡ answer self.old }
         ensures state { self.new ≡ after self.old }
         ensures rest { remaining self.old ≡ taken result (remaining self.new) }
     {
-        match read_at(self.bytes, self.at, self.end, self.before) {
-            Ok(found) => {
-                if let Some((record, next)) = found {
-                    self.at = next;
-                    self.before = record.line;
-                    Ok(Some(record))
-                } else {
-                    Ok(None)
-                }
-            }
-            Err(reason) => Err(reason.at(self.at)),
-        }
+        let found = self.read_here().map_err(|reason| reason.at(self.at))?;
+        let Some((record, next)) = found else {
+            return Ok(None);
+        };
+        self.at = next;
+        self.before = record.line;
+        Ok(Some(record))
     }
-}
 
-// How many records there are from `at` up to `end`, or the first fault among them.
-pub(crate) fn count_records(bytes: &[u8], at: usize, end: usize) -> Result<usize, Refusal>
-    ensures count { result ≡ count_of (records_in bytes.now at end 0) }
-    ensures rewritten { Rewritten bytes.now at end }
-    ensures same { SameBytes bytes.now }
-{
-    let mut reader = TraceReader::resume(bytes, at, end, 0);
-    let mut n = 0;
-    while let Some(_) = reader.next()? {
-        n += 1;
+    // How many records are left, or the first fault among them.
+    // Stays a loop that counts: `next` refuses a fault again and again, so an iterator over it would have no end.
+    pub(crate) fn count(mut self) -> Result<usize, Refusal>
+        ensures { result ≡ count_of (remaining self.entry) }
+    {
+        let mut n = 0;
+        while self.next()?.is_some() {
+            n += 1;
+        }
+        Ok(n)
     }
-    Ok(n)
 }
 
 // How many records a trace that stands alone has, or its first fault. Where it has none, the trace, written
-// again from its records, has the same bytes.
+// again from its records, has the same bytes, and so has every trace that is a part of the bytes.
+#[tactic(auto, using(crate::proofs::Traces::rewrites_in, crate::proofs::Traces::accepted_rewrites))]
 pub fn check_trace(bytes: &[u8]) -> Result<usize, Refusal>
     ensures count { result ≡ count_of (trace_in bytes.now) }
     ensures same { SameBytes bytes.now }
+    ensures rewritten { (at end : ℕ) → Rewritten bytes.now at end }
 {
-    count_records(bytes, 0, bytes.len())
+    TraceReader::new(bytes).count()
 }

@@ -1,33 +1,9 @@
 // How turns pass, and who is ready first.
-ghost use Rattle.std.specs.Prelude.{◌≡◌, ◌<◌};
-ghost use Rattle.arbiter.specs.Rounds.{after, first_ready};
+ghost use Rattle.std.specs.Prelude.{◌≡◌};
 ghost use Rattle.arbiter.specs.Turns.{first_of, own_of, slot_passed, turn_after};
 
 use super::Turn;
-use crate::ready::is_ready;
-use model::Cores;
-
-// The core after `core`, core 0 following the last.
-fn following(cores: Cores, core: u8) -> u8
-    ensures { result ≡ after cores.count core }
-{
-    if core < cores.count - 1 { core + 1 } else { 0 }
-}
-
-// The first ready core, `first` and then those after it.
-fn scanned(cores: Cores, first: u8, ready: u8) -> Option<u8>
-    requires { first < cores.count }
-    ensures { result ≡ first_ready cores.count ready first }
-{
-    let mut core = first;
-    for _ in 0..cores.count {
-        if is_ready(ready, core) {
-            return Some(core);
-        }
-        core = following(cores, core);
-    }
-    None
-}
+use model::{Cores, has_bit};
 
 impl Turn {
     // Core 0 has the first turn.
@@ -47,27 +23,26 @@ impl Turn {
     pub(crate) fn own(&self, ready: u8) -> Option<u8>
         ensures { result ≡ own_of self.now ready }
     {
-        if is_ready(ready, self.core) {
-            Some(self.core)
-        } else {
-            None
-        }
+        has_bit(ready.into(), self.core.into()).then_some(self.core)
     }
 
     // The first ready core, beginning with the one whose turn it is.
     pub(crate) fn first(&self, ready: u8) -> Option<u8>
         ensures { result ≡ first_of self.now ready }
     {
-        scanned(self.cores, self.core, ready)
+        (self.core..self.cores.count)
+            .chain(0..self.core)
+            .find(|&core| has_bit(ready.into(), core.into()))
     }
 
-    // The turn of the core after `core`.
+    // The turn of the core after `core`, core 0 following the last.
     pub(crate) fn after(self, core: u8) -> Turn
         ensures { result ≡ turn_after self core }
     {
+        let last = self.cores.count - 1;
         Turn {
             cores: self.cores,
-            core: following(self.cores, core),
+            core: if core < last { core + 1 } else { 0 },
         }
     }
 

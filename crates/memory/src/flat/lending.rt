@@ -1,7 +1,6 @@
-ghost use Rattle.std.specs.Prelude.{◌≡◌, ℕ, ◌≤◌};
+ghost use Rattle.std.specs.Prelude.{◌≡◌};
 ghost use Rattle.model.specs.Numbers.{lines_check};
 ghost use Rattle.memory.specs.Checks.{flat_counted};
-ghost use Rattle.memory.specs.Words.{word_at, with_word};
 
 use super::{Flat, FlatLines};
 use crate::Memory;
@@ -9,6 +8,7 @@ use refusal::{Reason, Refusal};
 
 impl<const L: usize> FlatLines<L> {
     // The check before the making.
+    // Stays beside that of `Lines`: by way of it, a length would first have to become a `u32`.
     pub fn check() -> Result<FlatLines<L>, Refusal>
         ensures { flat_counted L result ≡ lines_check L }
     {
@@ -34,42 +34,27 @@ impl<'a> Flat<'a> {
         let words = self.words;
         words
     }
-
-    fn word(&self, line: u8) -> u32
-        ensures { result ≡ word_at self.now.words.now line }
-    {
-        let place = line as usize;
-        if place < self.words.len() {
-            self.words[place]
-        } else {
-            0
-        }
-    }
-
-    fn put(&mut self, line: u8, word: u32)
-        ensures { self.new.words.now ≡ with_word self.old.words.now line word }
-    {
-        let place = line as usize;
-        if place < self.words.len() {
-            self.words[place] = word;
-        }
-    }
 }
 
+// Stays beside the same code in `Scratch`, which is an example and stands alone.
 impl<'a> Memory for Flat<'a> {
     ghost words = { λ m. m.words.now };
 
     ghost bounds = { λ m. m.within };
 
     fn lines(&self) -> u8 {
-        self.words.len() as u8
+        u8::try_from(self.words.len()).unwrap()
     }
 
     fn read(&self, line: u8) -> u32 {
-        self.word(line)
+        self.words.get(usize::from(line)).copied().unwrap_or(0)
     }
 
     fn write(&mut self, line: u8, word: u32) {
-        self.put(line, word);
+        // Stays by index: of what is written through `get_mut`, a proof knows the length and no word.
+        let place = usize::from(line);
+        if place < self.words.len() {
+            self.words[place] = word;
+        }
     }
 }

@@ -5,7 +5,7 @@ ghost use Rattle.own_parts.specs.Controlled.{law};
 
 use super::ControlFirst;
 use arbiter::Arbiter;
-use model::Cores;
+use model::{Cores, has_bit};
 
 impl ControlFirst {
     // It starts with slot 0.
@@ -26,20 +26,7 @@ impl ControlFirst {
     fn next(&self) -> u8
         ensures { result ≡ after (slots self.now) self.now.slot }
     {
-        if self.slot < 2 * self.cores.count - 1 {
-            self.slot + 1
-        } else {
-            0
-        }
-    }
-
-    fn passed(self) -> ControlFirst
-        ensures { result ≡ slot_passed self }
-    {
-        ControlFirst {
-            cores: self.cores,
-            slot: self.next(),
-        }
+        (self.slot + 1) % (2 * self.cores.count)
     }
 }
 
@@ -62,11 +49,7 @@ impl Arbiter for ControlFirst {
 
     fn grant(&mut self, ready: u8) -> Option<u8> {
         let owner = self.owner();
-        *self = self.passed();
-        if (ready >> owner) % 2 == 1 {
-            Some(owner)
-        } else {
-            None
-        }
+        self.slot = self.next();
+        has_bit(ready.into(), owner.into()).then_some(owner)
     }
 }

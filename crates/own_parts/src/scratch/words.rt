@@ -23,16 +23,13 @@ impl Memory for Scratch {
     }
 
     fn read(&self, line: u8) -> u32 {
-        if line < 16 {
-            self.words[line as usize]
-        } else {
-            0
-        }
+        self.words.get(usize::from(line)).copied().unwrap_or(0)
     }
 
     fn write(&mut self, line: u8, word: u32) {
-        let place = line as usize;
-        if place < 16 {
+        // By index: of what is written through `get_mut`, a proof knows the length and no word.
+        let place = usize::from(line);
+        if place < self.words.len() {
             self.words[place] = word;
         }
     }

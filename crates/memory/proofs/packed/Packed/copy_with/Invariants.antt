@@ -1,10 +1,14 @@
-use Rattle.std.proofs.Common.{◌≡◌, ℕ, ◌^◌, ◌<◌}
+use Rattle.std.proofs.Common.{◌≡◌, ℕ, ◌^◌, ◌<◌, length, get_or, take, count_ones}
+use Rattle.memory.specs.Packing.{unpacked}
 use Rattle.memory.specs.Unpacked.{words_of}
-use Rattle.memory.specs.Words.{word_at, with_word}
+use Rattle.memory.specs.Words.{with_word}
 use Rattle.memory.proofs.packed.Packed.copy_with.Given as goal
 
--- the lines so far have their words, and those above are 0
+-- the words so far stand behind the bit map, which has a word for each bit
 abbrev pub invariant-loop-i : goal.invariant-loop-i
-invariant-loop-i l =
-    (l.next.lines ≡ l.self.lines) × (l.next.bits < 2 ^ l.i)
-    × ((k : ℕ) → k < l.i → word_at (words_of l.next) k ≡ word_at (with_word (words_of l.self) l.line l.word) k)
+invariant-loop-i l = record {
+  cells : length l.kept ≡ 64;
+  below : l.bits < 2 ^ l.i;
+  filled : (k : ℕ) → k < count_ones l.bits → 0 < get_or l.kept k 0;
+  packed : take l.i (with_word (words_of l.self) l.line l.word) ≡ unpacked l.i l.bits l.kept;
+}
