@@ -11,14 +11,7 @@ use Rattle.arbiter.specs.Orders.{rounds_in_order, slots_in_order}
 use Rattle.arbiter.specs.Rounds.{first_ready, own_ready, fixed_slots_grants, round_robin_grants, work_conserving_grants}
 use Rattle.arbiter.specs.Scans.{Found, scan_found, scan_none, scan_here, own_found, own_here, steps_below, steps_after, nearer_past}
 use Rattle.arbiter.specs.Shipped.{turn_moves, turn_picks}
-use Rattle.arbiter.specs.Turns.{TurnLaw, first_of, own_of, slot_passed, slot_passes, grant_passed, turns_to}
-
--- a grant that answers o takes turn t to turn u
-pub record Granted (t : Turn) (ready : ℕ) (o : Option ℕ) (u : Turn) : Type 0 where
-  pub same_cores : u.cores ≡ t.cores
-  pub is_core : (g : ℕ) → o ≡ Some g → g < t.cores.count
-  pub is_ready : (g : ℕ) → o ≡ Some g → ready_at ready g ≡ true
-  pub closer : (core : ℕ) → core < t.cores.count → ready_at ready core ≡ true → (o ≢ Some core) → turns_to u core < turns_to t core
+use Rattle.arbiter.specs.Turns.{Granted, TurnLaw, first_of, own_of, slot_passed, slot_passes, grant_passed, turns_to}
 
 -- whatever keeps a turn, beside other things it may keep
 module _ {A : Type 0} (turn : A → Turn) (picks : A → ℕ → Option ℕ) (moves : A → ℕ → A) where
@@ -40,20 +33,13 @@ module _ {A : Type 0} (turn : A → Turn) (picks : A → ℕ → Option ℕ) (mo
     distance_below_wait = λ a core l. steps_below (turn a).cores.count (turn a).core core (turn a).within l;
   }
 
-module _ {picks : Turn → ℕ → Option ℕ} {passes : Turn → Option ℕ → Turn} {order : ℕ → List ℕ → List (Option ℕ)} (law : TurnLaw picks passes order) where
-  pub granted_by : (t : Turn) (ready : ℕ) → Granted t ready (picks t ready) (passes t (picks t ready))
-  granted_by t ready = record {
-    same_cores = law.cores_stay t (picks t ready);
-    is_core = law.picked_is_core t ready;
-    is_ready = law.picked_is_ready t ready;
-    closer = law.passed_over_is_closer t ready;
-  }
-
-  -- an arbiter by such a rule
-  pub bounded_by : {R : Type 0} → BoundedWaiting {A = ByTurn R} (λ a. a.turn.cores.count) (λ a. a.turn.cores.count) (λ a. turns_to a.turn) (turn_picks picks) (turn_moves picks passes)
-  bounded_by =
-      bounded (λ a. a.turn) (turn_picks picks) (turn_moves picks passes) (λ a. granted_by a.turn)
-      (λ a. law.picks_by_cores a.turn) (λ a ready. ap (λ o. record a { turn = passes a.turn o }) (law.picks_by_cores a.turn ready))
+-- an arbiter by a rule of turns
+pub bounded_by : {R : Type 0} {picks : Turn → ℕ → Option ℕ} {passes : Turn → Option ℕ → Turn} {order : ℕ → List ℕ → List (Option ℕ)}
+    → TurnLaw picks passes order
+    → BoundedWaiting {A = ByTurn R} (λ a. a.turn.cores.count) (λ a. a.turn.cores.count) (λ a. turns_to a.turn) (turn_picks picks) (turn_moves picks passes)
+bounded_by {R} {picks} {passes} law =
+    bounded (λ a. a.turn) (turn_picks picks) (turn_moves picks passes) (λ a. law.granted a.turn)
+    (λ a. law.picks_by_cores a.turn) (λ a ready. ap (λ o. record a { turn = passes a.turn o }) (law.picks_by_cores a.turn ready))
 
 -- the first ready core as what a scan found
 first_found : (t : Turn) (ready core : ℕ) → first_of t ready ≡ Some core → Found t.cores.count ready t.core core
@@ -70,43 +56,53 @@ grant_closer t ready core None e l r ne =
     let n = t.cores.count in
     absurd (both_ways _ (scan_none n ready n t.core core t.within l e (steps_below n t.core core t.within l)) r)
 
+-- ---- what one grant by each of the three does to the turn, and what each rule keeps
+
+pub work_conserving_granted : (t : Turn) (ready : ℕ) → Granted t ready (first_of t ready) (slot_passed t)
+work_conserving_granted t ready = record {
+  same_cores = refl;
+  is_core = λ g e. (first_found t ready g e).is_core;
+  is_ready = λ g e. (first_found t ready g e).is_ready;
+  closer = λ core l r ne. slot_closer t core l (λ same. ne (rw same (scan_here t.cores.count ready t.core t.cores.count (omega (arith, t.within)) (rw same at r))));
+}
+
 pub work_conserving_law : TurnLaw first_of slot_passes (λ n. work_conserving_grants n 0)
 work_conserving_law = record {
   picks_by_cores = first_by_cores;
-  picked_is_core = λ t ready core e. (first_found t ready core e).is_core;
-  picked_is_ready = λ t ready core e. (first_found t ready core e).is_ready;
-  cores_stay = λ t picked. refl;
-  passed_over_is_closer = λ t ready core l r ne. slot_closer t core l (λ same. ne (rw same (scan_here t.cores.count ready t.core t.cores.count (omega (arith, t.within)) (rw same at r))));
+  granted = work_conserving_granted;
   in_order = λ t first readies. slots_in_order first_ready readies t 0 (first ∙ sym (zero-mod t.cores.count));
+}
+
+pub fixed_slots_granted : (t : Turn) (ready : ℕ) → Granted t ready (own_of t ready) (slot_passed t)
+fixed_slots_granted t ready = record {
+  same_cores = refl;
+  is_core = λ g e. rw (own_found ready t.core g e).0 t.within;
+  is_ready = λ g e. (own_found ready t.core g e).1;
+  closer = λ core l r ne. slot_closer t core l (λ same. ne (rw same (own_here ready t.core (rw same at r))));
 }
 
 pub fixed_slots_law : TurnLaw own_of slot_passes (λ n. fixed_slots_grants n 0)
 fixed_slots_law = record {
   picks_by_cores = own_by_cores;
-  picked_is_core = λ t ready core e. rw (own_found ready t.core core e).0 t.within;
-  picked_is_ready = λ t ready core e. (own_found ready t.core core e).1;
-  cores_stay = λ t picked. refl;
-  passed_over_is_closer = λ t ready core l r ne. slot_closer t core l (λ same. ne (rw same (own_here ready t.core (rw same at r))));
+  granted = fixed_slots_granted;
   in_order = λ t first readies. slots_in_order (λ n. own_ready) readies t 0 (first ∙ sym (zero-mod t.cores.count));
+}
+
+cores_stay : (t : Turn) (o : Option ℕ) → (grant_passed t o).cores ≡ t.cores
+cores_stay t (Some core) = refl
+cores_stay t None = refl
+
+pub round_robin_granted : (t : Turn) (ready : ℕ) → Granted t ready (first_of t ready) (grant_passed t (first_of t ready))
+round_robin_granted t ready = record {
+  same_cores = cores_stay t (first_of t ready);
+  is_core = λ g e. (first_found t ready g e).is_core;
+  is_ready = λ g e. (first_found t ready g e).is_ready;
+  closer = λ core. grant_closer t ready core (first_of t ready) refl;
 }
 
 pub round_robin_law : TurnLaw first_of grant_passed (λ n. round_robin_grants n None)
 round_robin_law = record {
   picks_by_cores = first_by_cores;
-  picked_is_core = λ t ready core e. (first_found t ready core e).is_core;
-  picked_is_ready = λ t ready core e. (first_found t ready core e).is_ready;
-  cores_stay = λ t. elim [ Some core ↦ refl | None ↦ refl ];
-  passed_over_is_closer = λ t ready core. grant_closer t ready core (first_of t ready) refl;
+  granted = round_robin_granted;
   in_order = λ t first readies. rounds_in_order readies t None first;
 }
-
--- ---- what one grant by each of the three does to the turn, for whoever reasons about turns
-
-pub work_conserving_granted : (t : Turn) (ready : ℕ) → Granted t ready (first_of t ready) (slot_passed t)
-work_conserving_granted = granted_by work_conserving_law
-
-pub fixed_slots_granted : (t : Turn) (ready : ℕ) → Granted t ready (own_of t ready) (slot_passed t)
-fixed_slots_granted = granted_by fixed_slots_law
-
-pub round_robin_granted : (t : Turn) (ready : ℕ) → Granted t ready (first_of t ready) (grant_passed t (first_of t ready))
-round_robin_granted = granted_by round_robin_law

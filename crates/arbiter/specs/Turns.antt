@@ -38,16 +38,19 @@ own_of t ready = own_ready ready t.core
 abbrev pub turns_to : Turn → ℕ → ℕ
 turns_to t core = steps t.cores.count t.core core
 
+-- a grant that answers o takes turn t to turn u: N stays; a granted core is one of the N, and ready; a ready core that is not
+-- granted is fewer turns from its own
+pub record Granted (t : Turn) (ready : ℕ) (o : Option ℕ) (u : Turn) : Type 0 where
+  pub same_cores : u.cores ≡ t.cores
+  pub is_core : (g : ℕ) → o ≡ Some g → g < t.cores.count
+  pub is_ready : (g : ℕ) → o ≡ Some g → ready_at ready g ≡ true
+  pub closer : (core : ℕ) → core < t.cores.count → ready_at ready core ≡ true → (o ≢ Some core) → turns_to u core < turns_to t core
+
 -- what a rule keeps that picks a core at each turn and then passes the turn
 pub record TurnLaw (picks : Turn → ℕ → Option ℕ) (passes : Turn → Option ℕ → Turn) (order : ℕ → List ℕ → List (Option ℕ)) : Type 0 where
   -- bits from N up count for nothing
   pub picks_by_cores : (t : Turn) (ready : ℕ) → picks t (ready % 2 ^ t.cores.count) ≡ picks t ready
-  -- a picked core is one of the N, and ready
-  pub picked_is_core : (t : Turn) (ready core : ℕ) → picks t ready ≡ Some core → core < t.cores.count
-  pub picked_is_ready : (t : Turn) (ready core : ℕ) → picks t ready ≡ Some core → ready_at ready core ≡ true
-  -- N never changes
-  pub cores_stay : (t : Turn) (picked : Option ℕ) → (passes t picked).cores ≡ t.cores
-  -- a ready core that is not picked is fewer turns from its own afterwards
-  pub passed_over_is_closer : (t : Turn) (ready core : ℕ) → core < t.cores.count → ready_at ready core ≡ true → (picks t ready ≢ Some core) → turns_to (passes t (picks t ready)) core < turns_to t core
+  -- each grant does to the turn what bounded waiting asks
+  pub granted : (t : Turn) (ready : ℕ) → Granted t ready (picks t ready) (passes t (picks t ready))
   -- from core 0's turn on the answers are in the rule's order
   pub in_order : (t : Turn) → t.core ≡ 0 → InOrder picks (λ u ready. passes u (picks u ready)) t (order t.cores.count)

@@ -5,7 +5,8 @@ use Rattle.std.specs.Bool.{then_some}
 use Rattle.model.specs.Numbers.{kind_number}
 use Rattle.trace.specs.declared.Record.{Record}
 use Rattle.trace.specs.Reading.{size, map_of, has, big_endian, gap_in, line_in, word_in, kind_in}
-use Rattle.trace.specs.Writing.{bytes_of, laid_out, differs, map_of_fields, with_fields, encode}
+use Rattle.trace.specs.Fields.{map_of_fields, with_fields}
+use Rattle.trace.specs.Writing.{bytes_of, laid_out, differs, encode}
 
 -- what is read of them, whatever follows
 abbrev pub Seen : Type 0

@@ -1,5 +1,5 @@
 -- A trace record as bytes, and what writing one into a buffer answers and leaves.
-use Rattle.std.specs.Prelude.{◌≡◌, ℕ, zero, suc, ◌+◌, ◌-◌, ◌/◌, ◌%◌, Bool, false, cond, not, ◌&&◌, List, [], ◌∷◌, ◌++◌, length, take, drop, is_some, unwrap_or, Ok, Err, Option, Result, ◌==◌, nat_lt}
+use Rattle.std.specs.Prelude.{◌≡◌, ℕ, zero, suc, ◌+◌, ◌-◌, ◌/◌, ◌%◌, Bool, false, cond, not, ◌&&◌, List, [], ◌∷◌, ◌++◌, length, take, drop, Ok, Err, Result, ◌==◌, nat_lt}
 use Rattle.refusal.specs.declared.Reason.TheVariants.{RedundantField, NoSpace}
 use Rattle.refusal.specs.declared.Refusal.{Refusal}
 use Rattle.refusal.specs.Refusals.{refusal, and_then}
@@ -33,14 +33,6 @@ laid_out g l w k r =
 unfoldable pub encode : Record → ℕ → List ℕ
 encode r before =
     laid_out (differs r.gap 0) (differs r.line before) (differs r.word 0) (differs (kind_number r.kind) 0) r
-
--- a record's bytes by those of its fields, each of which may be absent
-abbrev pub map_of_fields : Option (List ℕ) → Option (List ℕ) → Option (List ℕ) → Option (List ℕ) → ℕ
-map_of_fields gap line word kind = map_by (is_some gap) (is_some line) (is_some word) (is_some kind)
-
-abbrev pub with_fields : Option (List ℕ) → Option (List ℕ) → Option (List ℕ) → Option (List ℕ) → List ℕ
-with_fields gap line word kind =
-    map_of_fields gap line word kind ∷ (unwrap_or gap [] ++ (unwrap_or line [] ++ (unwrap_or word [] ++ unwrap_or kind [])))
 
 -- a buffer with bytes put at a place, and every other byte as it was
 unfoldable pub put : List ℕ → ℕ → List ℕ → List ℕ

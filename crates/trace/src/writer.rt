@@ -2,7 +2,8 @@
 ghost use Rattle.std.specs.Prelude.{◌≡◌, ◌+◌, ◌≤◌, [], length, unwrap_or, is_some, IfOk, OnOk};
 ghost use Rattle.trace.specs.Reading.{size};
 ghost use Rattle.trace.specs.Whole.{Holds, ReadsBack};
-ghost use Rattle.trace.specs.Writing.{map_of_fields, with_fields, encode, put, Writable, record_from, placed, filled};
+ghost use Rattle.trace.specs.Fields.{map_of_fields, with_fields};
+ghost use Rattle.trace.specs.Writing.{encode, put, Writable, record_from, placed, filled};
 
 use crate::Record;
 use crate::decode::size_of;
