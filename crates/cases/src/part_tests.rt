@@ -1,7 +1,7 @@
 // Arbiters and memories through the code.
 use arbiter::{Arbiter, FixedSlots, RoundRobin, WorkConserving, grants_until};
 use memory::{Flat, FlatLines, Memory, Packed, write_and_read};
-use model::{Cores, Lines};
+use model::{Core, Cores, Line, Lines};
 use own_parts::{ControlFirst, Scratch};
 use refusal::Reason;
 use std::process::Abort;
@@ -126,6 +126,21 @@ fn numbers_of_cores_and_lines(rt: HostRuntime) -> Result<(), Fail> {
     assert!(rt; FlatLines::<1>::check().is_ok());
     assert!(rt; FlatLines::<0>::check().is_err());
     assert!(rt; FlatLines::<65>::check().is_err());
+    Ok(())
+}
+
+// What a developer sees of them has the names that callers use.
+#[test]
+fn checked_numbers_print_by_name(rt: HostRuntime) -> Result<(), Fail> {
+    let heap = rt.alloc();
+    let cores = Cores::try_from(8)?;
+    let lines = Lines::try_from(64)?;
+    let counts = format!(in heap; "{cores:?} {lines:?}")?;
+    assert_eq!(rt; counts.as_str(), "Cores { count: 8 } Lines { count: 64 }");
+    let core = Core::check(7, cores)?;
+    let line = Line::check(63, lines)?;
+    let one = format!(in heap; "{core:?} {line:?}")?;
+    assert_eq!(rt; one.as_str(), "Core { number: 7 } Line { number: 63 }");
     Ok(())
 }
 

@@ -98,3 +98,7 @@ all_hear rs sender line m core l few small =
           get_or_past (broadcast sender line m rs) (place_of core l) blank (omega (arith, length_changed (told 8 sender line m) rs))
           ∙ sym (ap (λ r. cond (eqb l line) (moved (heard_as sender m core) r) r) none ∙ cond_both (eqb l line) _ _ (λ r. r ≡ blank) (λ _. blank_stays m (eqb core sender)) (λ _. refl))
     ]
+
+-- .. and so are records that a broadcast left
+pub all_heard : (rs after : List LineRecord) (sender line : ℕ) (m : Message) → after ≡ broadcast sender line m rs → AllHear sender line m rs after
+all_heard rs after sender line m e = rw e (all_hear rs sender line m)

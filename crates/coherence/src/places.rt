@@ -90,6 +90,7 @@ impl Places {
 
     // A message about a line goes out to all cores: the sender's record of the line meets it as the sender's own, those of
     // the others as another core's, and no other record changes.
+    #[tactic(auto, using(crate::proofs::Broadcasts::all_heard))]
     pub fn broadcast(&mut self, sender: Core, line: Line, message: Message)
         ensures records { self.new.records ≡ broadcast sender.number line.number message self.old.records }
         ensures all { AllHear sender.number line.number message self.old.records self.new.records }

@@ -2,16 +2,17 @@
 ghost use Rattle.std.specs.Prelude.{◌<◌, ◌≤◌};
 
 mod checks;
+mod printing;
 
 // A number of things, 1 to MAX.
-#[derive(Clone, Copy, PartialEq, Eq, Debug)]
+#[derive(Clone, Copy, PartialEq, Eq)]
 pub struct Count<const MAX: u8> {
     pub count: u8,
     ghost within: { (1 ≤ count) × (count ≤ MAX) },
 }
 
 // One of MAX things, by its number, from 0.
-#[derive(Clone, Copy, PartialEq, Eq, Debug)]
+#[derive(Clone, Copy, PartialEq, Eq)]
 pub struct Ordinal<const MAX: u8> {
     pub number: u8,
     ghost within: { number < MAX },

@@ -129,20 +129,26 @@ pub(crate) fn decode(bytes: &[u8], before: u8) -> Result<Record, Reason>
     }
     let whole = WholeRecord { bytes };
     let kind = whole.kind()?;
-    let gap = whole.gap();
-    let line = whole.line();
-    let word = whole.word();
-    // A field that says what its absence says, or a word without a store.
-    if gap == Some(0)
-        || line == Some(before)
-        || word.is_some_and(|word| word == 0 || kind != Kind::Store)
-    {
-        return Err(Reason::RedundantField);
-    }
+    // A field that says what its absence says, or a word without a store, is redundant.
+    let gap = match whole.gap() {
+        Some(0) => return Err(Reason::RedundantField),
+        Some(gap) => gap,
+        None => 0,
+    };
+    let line = match whole.line() {
+        Some(line) if line == before => return Err(Reason::RedundantField),
+        Some(line) => line,
+        None => before,
+    };
+    let word = match whole.word() {
+        Some(word) if word == 0 || kind != Kind::Store => return Err(Reason::RedundantField),
+        Some(word) => word,
+        None => 0,
+    };
     Ok(Record {
-        gap: gap.unwrap_or(0),
-        line: line.unwrap_or(before),
-        word: word.unwrap_or(0),
+        gap,
+        line,
+        word,
         kind,
     })
 }

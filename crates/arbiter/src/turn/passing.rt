@@ -3,7 +3,7 @@ ghost use Rattle.std.specs.Prelude.{◌≡◌};
 ghost use Rattle.arbiter.specs.Turns.{first_of, own_of, slot_passed, turn_after};
 
 use super::Turn;
-use model::{Cores, has_bit};
+use model::Cores;
 
 impl Turn {
     // Core 0 has the first turn.
@@ -23,16 +23,25 @@ impl Turn {
     pub(crate) fn own(&self, ready: u8) -> Option<u8>
         ensures { result ≡ own_of self.now ready }
     {
-        has_bit(ready.into(), self.core.into()).then_some(self.core)
+        // Not by `has_bit`, which asks first whether there is such a bit: that takes half as long again.
+        let is_ready = (ready >> self.core) % 2 == 1;
+        is_ready.then_some(self.core)
     }
 
     // The first ready core, beginning with the one whose turn it is.
     pub(crate) fn first(&self, ready: u8) -> Option<u8>
         ensures { result ≡ first_of self.now ready }
     {
-        (self.core..self.cores.count)
-            .chain(0..self.core)
-            .find(|&core| has_bit(ready.into(), core.into()))
+        // From turn to turn: a `find` over the cores in this order takes up to twice the time.
+        let mut turn = *self;
+        for _ in 0..self.cores.count {
+            let own = turn.own(ready);
+            if own.is_some() {
+                return own;
+            }
+            turn = turn.passed();
+        }
+        None
     }
 
     // The turn of the core after `core`, core 0 following the last.

@@ -5,7 +5,7 @@ ghost use Rattle.own_parts.specs.Controlled.{law};
 
 use super::ControlFirst;
 use arbiter::Arbiter;
-use model::{Cores, has_bit};
+use model::Cores;
 
 impl ControlFirst {
     // It starts with slot 0.
@@ -26,7 +26,8 @@ impl ControlFirst {
     fn next(&self) -> u8
         ensures { result ≡ after (slots self.now) self.now.slot }
     {
-        (self.slot + 1) % (2 * self.cores.count)
+        let next = self.slot + 1;
+        if next < 2 * self.cores.count { next } else { 0 }
     }
 }
 
@@ -50,6 +51,7 @@ impl Arbiter for ControlFirst {
     fn grant(&mut self, ready: u8) -> Option<u8> {
         let owner = self.owner();
         self.slot = self.next();
-        has_bit(ready.into(), owner.into()).then_some(owner)
+        let is_ready = (ready >> owner) % 2 == 1;
+        is_ready.then_some(owner)
     }
 }
