@@ -23,7 +23,7 @@ impl Turn {
     pub(crate) fn own(&self, ready: u8) -> Option<u8>
         ensures { result ≡ own_of self.now ready }
     {
-        // Not by `has_bit`, which asks first whether there is such a bit: that takes half as long again.
+        // Not by `has_bit`, which asks first whether there is such a bit: a grant takes longer by it.
         let is_ready = (ready >> self.core) % 2 == 1;
         is_ready.then_some(self.core)
     }
@@ -35,9 +35,8 @@ impl Turn {
         // From turn to turn: a `find` over the cores in this order takes up to twice the time.
         let mut turn = *self;
         for _ in 0..self.cores.count {
-            let own = turn.own(ready);
-            if own.is_some() {
-                return own;
+            if let Some(core) = turn.own(ready) {
+                return Some(core);
             }
             turn = turn.passed();
         }

@@ -26,8 +26,8 @@ impl ControlFirst {
     fn next(&self) -> u8
         ensures { result ≡ after (slots self.now) self.now.slot }
     {
-        let next = self.slot + 1;
-        if next < 2 * self.cores.count { next } else { 0 }
+        let last = 2 * self.cores.count - 1;
+        if self.slot < last { self.slot + 1 } else { 0 }
     }
 }
 
